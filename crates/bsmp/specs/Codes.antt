@@ -1,0 +1,73 @@
+-- 01's numbers for commands, operations, kinds, wire errors and local refusals. Assumes nothing.
+use mathlib.Core.Bool.{Bool, true, false, cond}
+use Prim.Native.Nat.{ℕ}
+use lib.Dec.{eqb}
+use Rattle.bsmp.specs.declared.Command.{Command}
+use Rattle.bsmp.specs.declared.Command.the-variants.{Version, ListVariables, ListGroups, ShowGroup, ListCurves, ListFunctions, ReadVariable, ReadGroup, WriteVariable, WriteGroup}
+use Rattle.bsmp.specs.declared.Command.the-variants.{MaskVariable, MaskGroup, WriteRead, MakeGroup, RemoveGroups, ReadBlock, WriteBlock, RunFunction, Unknown}
+use Rattle.bsmp.specs.declared.Operation.{Operation}
+use Rattle.bsmp.specs.declared.Operation.the-variants.{Replace, TurnOn, TurnOff, Invert, KeepOnly, Other}
+use Rattle.bsmp.specs.declared.Kind.{Kind}
+use Rattle.bsmp.specs.declared.Kind.the-variants as K
+use Rattle.bsmp.specs.declared.WireError.{WireError}
+use Rattle.bsmp.specs.declared.WireError.the-variants.{Malformed, Unsupported, BadId, BadValue, BadSize, ReadOnly, Full, Busy}
+use Rattle.bsmp.specs.declared.Refusal.{Refusal}
+use Rattle.bsmp.specs.declared.Refusal.the-variants.{BoardUnusable, BadAddress, ReplyBufferShort, PacketLength, Checksum, NotForThisBoard}
+use Rattle.bsmp.specs.declared.Refusal.the-variants.{NoSuchFunction, OutputLength, NoSuchVariable, WrongByteCount, WrongKind, DoesNotFit}
+
+-- "The command codes are these and no others"
+unfoldable pub commandOf : ℕ → Command
+commandOf c =
+    cond (eqb c 0x00) Version (cond (eqb c 0x02) ListVariables (cond (eqb c 0x04) ListGroups (cond (eqb c 0x06) ShowGroup
+    (cond (eqb c 0x08) ListCurves (cond (eqb c 0x0C) ListFunctions (cond (eqb c 0x10) ReadVariable (cond (eqb c 0x12) ReadGroup
+    (cond (eqb c 0x20) WriteVariable (cond (eqb c 0x22) WriteGroup (cond (eqb c 0x24) MaskVariable (cond (eqb c 0x26) MaskGroup
+    (cond (eqb c 0x28) WriteRead (cond (eqb c 0x30) MakeGroup (cond (eqb c 0x32) RemoveGroups (cond (eqb c 0x40) ReadBlock
+    (cond (eqb c 0x41) WriteBlock (cond (eqb c 0x50) RunFunction Unknown)))))))))))))))))
+
+-- "53 set and 4F or turn on the mask's bits; 43 clear turns them off; 54 toggle and 58 xor invert them; 41 and keeps only them"
+unfoldable pub operationOf : ℕ → Operation
+operationOf o =
+    cond (eqb o 0x53) TurnOn (cond (eqb o 0x4F) TurnOn (cond (eqb o 0x43) TurnOff (cond (eqb o 0x54) Invert (cond (eqb o 0x58) Invert
+    (cond (eqb o 0x41) KeepOnly Other)))))
+
+abbrev pub isOther : Operation → Bool
+isOther Replace = false
+isOther TurnOn = false
+isOther TurnOff = false
+isOther Invert = false
+isOther KeepOnly = false
+isOther Other = true
+
+-- "operation not one of the six"
+unfoldable pub noOperation : ℕ → Bool
+noOperation o = isOther (operationOf o)
+
+-- "plain bytes, unsigned or signed; big or little endian": a record has it as a number from 0 to 4
+unfoldable pub kindOf : ℕ → Kind
+kindOf k =
+    cond (eqb k 0) K.Plain (cond (eqb k 1) (K.Number false true) (cond (eqb k 2) (K.Number false false)
+    (cond (eqb k 3) (K.Number true true) (cond (eqb k 4) (K.Number true false) K.Unknown))))
+
+abbrev pub errorCode : WireError → ℕ
+errorCode Malformed = 0xE1
+errorCode Unsupported = 0xE2
+errorCode BadId = 0xE3
+errorCode BadValue = 0xE4
+errorCode BadSize = 0xE5
+errorCode ReadOnly = 0xE6
+errorCode Full = 0xE7
+errorCode Busy = 0xE8
+
+abbrev pub refusalNumber : Refusal → ℕ
+refusalNumber BoardUnusable = 1
+refusalNumber BadAddress = 2
+refusalNumber ReplyBufferShort = 3
+refusalNumber PacketLength = 4
+refusalNumber Checksum = 5
+refusalNumber NotForThisBoard = 6
+refusalNumber NoSuchFunction = 7
+refusalNumber OutputLength = 8
+refusalNumber NoSuchVariable = 9
+refusalNumber WrongByteCount = 10
+refusalNumber WrongKind = 11
+refusalNumber DoesNotFit = 12

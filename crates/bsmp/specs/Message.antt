@@ -1,0 +1,335 @@
+-- A message: what it asks for, the first error that it meets, what it changes and what is said to it. Nothing here knows how
+-- the message came: addresses and checksums stand above, in Packet. Assumes nothing.
+use mathlib.Core.Bool.{Bool, true, false, cond, not, _&&_, _||_}
+use mathlib.Core.List.{List, [], _∷_, _++_, map}
+use Prim.Native.Nat.{ℕ, _+_, _-_, _*_}
+use lib.Dec.{leb, ltb, eqb}
+use lib.Bits.{bitAnd, bitOr, bitXor}
+use lib.ListN.{length, drop, set, getD}
+use Rattle.bsmp.specs.Base.{sum, upFrom, every, some, join, cut, ascending, within, bit, byteAt, wordAt, word, Test, test, first}
+use Rattle.bsmp.specs.Codes.{commandOf, operationOf, noOperation, errorCode}
+use Rattle.bsmp.specs.Board.{variable, group, curve, function, Layout, State, valueOf, blockOf, isWritable, sizeOf, marked}
+use Rattle.bsmp.specs.Board.{members, groupBytes, groupHas, writableGroup, groupCount, setOf, curveOf, blockPlace, functionOf}
+use Rattle.bsmp.specs.declared.VariableNumber.{VariableNumber}
+use Rattle.bsmp.specs.declared.GroupNumber.{GroupNumber}
+use Rattle.bsmp.specs.declared.CurveNumber.{CurveNumber}
+use Rattle.bsmp.specs.declared.FunctionNumber.{FunctionNumber}
+use Rattle.bsmp.specs.declared.Curve.{Curve}
+use Rattle.bsmp.specs.declared.Function.{Function}
+use Rattle.bsmp.specs.declared.Command.{Command}
+use Rattle.bsmp.specs.declared.Command.the-variants.{Version, ListVariables, ListGroups, ShowGroup, ListCurves, ListFunctions, ReadVariable, ReadGroup, WriteVariable, WriteGroup}
+use Rattle.bsmp.specs.declared.Command.the-variants.{MaskVariable, MaskGroup, WriteRead, MakeGroup, RemoveGroups, ReadBlock, WriteBlock, RunFunction, Unknown}
+use Rattle.bsmp.specs.declared.Operation.{Operation}
+use Rattle.bsmp.specs.declared.Operation.the-variants.{Replace, TurnOn, TurnOff, Invert, KeepOnly, Other}
+use Rattle.bsmp.specs.declared.WireError.{WireError}
+use Rattle.bsmp.specs.declared.WireError.the-variants.{Malformed, Unsupported, BadId, BadValue, BadSize, ReadOnly, Full, Busy}
+use Rattle.bsmp.specs.declared.Check.{Check}
+use Rattle.bsmp.specs.declared.Check.the-variants.{Pass, Fail}
+
+-- what is done about a message: one change of the state, and one answer out of the state after it -------------------------
+pub data Change : Type 0 where
+  nothing : Change
+  -- each of these variables is changed, byte by byte, by the bytes given for it
+  edit : Operation → List VariableNumber → List (List ℕ) → Change
+  -- the block at this place gets these first bytes
+  fill : ℕ → List ℕ → Change
+  -- these are the made groups from now on
+  regroup : List ℕ → Change
+
+pub data Answer : Type 0 where
+  -- code and payload
+  say : ℕ → List ℕ → Answer
+  -- code, and the values of these variables
+  tell : ℕ → List VariableNumber → Answer
+  -- code, a beginning, and the block at this place
+  show : ℕ → List ℕ → ℕ → Answer
+  -- function and input
+  call : FunctionNumber → List ℕ → Answer
+
+-- 01's list of wire errors: its ten steps, each with its code -------------------------------------------------------------
+abbrev pub badMessage : Bool → Test WireError
+badMessage = test 1 Malformed
+
+abbrev pub badCommand : Bool → Test WireError
+badCommand = test 2 Unsupported
+
+abbrev pub badFront : Bool → Test WireError
+badFront = test 3 BadSize
+
+abbrev pub missing : Bool → Test WireError
+missing = test 4 BadId
+
+abbrev pub badOperation : Bool → Test WireError
+badOperation = test 5 Unsupported
+
+abbrev pub badPlace : Bool → Test WireError
+badPlace = test 6 BadValue
+
+abbrev pub badRest : Bool → Test WireError
+badRest = test 7 BadSize
+
+abbrev pub readOnly : Bool → Test WireError
+readOnly = test 8 ReadOnly
+
+abbrev pub isBusy : Bool → Test WireError
+isBusy = test 9 Busy
+
+abbrev pub isFull : Bool → Test WireError
+isFull = test 10 Full
+
+-- the payload's parts -----------------------------------------------------------------------------------------------------
+module _ (p : List ℕ) where
+  abbrev pub size≠ : ℕ → Bool
+  size≠ n = not (eqb (length p) n)
+
+  abbrev pub size< : ℕ → Bool
+  size< n = ltb (length p) n
+
+  abbrev pub variableAt : ℕ → VariableNumber
+  variableAt i = variable (byteAt p i)
+
+  abbrev pub groupAt : ℕ → GroupNumber
+  groupAt i = group (byteAt p i)
+
+  abbrev pub curveAt : ℕ → CurveNumber
+  curveAt i = curve (byteAt p i)
+
+  abbrev pub functionAt : ℕ → FunctionNumber
+  functionAt i = function (byteAt p i)
+
+-- what doesn't exist ------------------------------------------------------------------------------------------------------
+abbrev pub noVariable : Layout → VariableNumber → Bool
+noVariable l i = not (ltb (i .0) (length (l .sizes)))
+
+abbrev pub noGroup : List ℕ → GroupNumber → Bool
+noGroup gs g = not (ltb (g .0) (groupCount gs))
+
+abbrev pub noCurve : Layout → CurveNumber → Bool
+noCurve l c = not (ltb (c .0) (length (l .curves)))
+
+abbrev pub noFunction : Layout → FunctionNumber → Bool
+noFunction l f = not (ltb (f .0) (length (l .functions)))
+
+-- tests that commands share: no payload; one variable or one group to be written, named first, its bytes from n on; a block --
+abbrev pub noPayload : List ℕ → List (Test WireError)
+noPayload p = badFront (size≠ p 0) ∷ []
+
+unfoldable pub writesVariable : Layout → List ℕ → ℕ → ℕ → List (Test WireError)
+writesVariable l p n busy =
+    badRest (size≠ p (n + sizeOf l (variableAt p 0)))
+    ∷ readOnly (not (marked (l .writable) (variableAt p 0)))
+    ∷ isBusy (marked busy (variableAt p 0))
+    ∷ []
+
+unfoldable pub writesGroup : Layout → List ℕ → List ℕ → ℕ → ℕ → List (Test WireError)
+writesGroup l gs p n busy =
+    badRest (size≠ p (n + groupBytes l gs (groupAt p 0)))
+    ∷ readOnly (not (writableGroup l gs (groupAt p 0)))
+    ∷ isBusy (groupHas busy l gs (groupAt p 0))
+    ∷ []
+
+abbrev pub blockMissing : Layout → List ℕ → Bool
+blockMissing l p = not (ltb (wordAt p 1) (curveOf l (curveAt p 0) .blocks))
+
+-- lists on the wire -------------------------------------------------------------------------------------------------------
+-- "top bit 1 if writable, low seven the size"
+abbrev pub listed : Bool → ℕ → ℕ
+listed writable n = cond writable 128 0 + n
+
+unfoldable pub variableList : Layout → List ℕ
+variableList l = map (λ i. listed (marked (l .writable) (variable i)) (sizeOf l (variable i))) (upFrom 0 (length (l .sizes)))
+
+unfoldable pub groupList : Layout → List ℕ → List ℕ
+groupList l gs = map (λ g. listed (writableGroup l gs (group g)) (length (members l gs (group g)))) (upFrom 0 (groupCount gs))
+
+-- "per curve type (0, 1), block size in two bytes, blocks in two (65,536 as 0)"
+abbrev pub curveRecord : Curve → List ℕ
+curveRecord c = bit (isWritable (c .writable)) ∷ word (c .size) ++ word (c .blocks)
+
+unfoldable pub curveList : Layout → List ℕ
+curveList l = join (map curveRecord (l .curves))
+
+-- "input count in the high four bits, output in the low four"
+unfoldable pub functionList : Layout → List ℕ
+functionList l = map (λ f. f .input * 16 + f .output) (l .functions)
+
+-- 01's table of commands --------------------------------------------------------------------------------------------------
+-- a command: the tests that it must pass under the busy marks, in 01's order; what it changes; what it answers
+pub record Line : Type 0 where
+  pub tests : (busy : ℕ) → List (Test WireError)
+  pub change : Change
+  pub answer : Answer
+
+abbrev pub done : Answer
+done = say 0xE0 []
+
+module _ (l : Layout) (gs : List ℕ) (p : List ℕ) where
+  abbrev pub groupMembers : List VariableNumber
+  groupMembers = members l gs (groupAt p 0)
+
+  -- the bytes from n on: all for the one variable, or cut up for the group's members
+  abbrev pub editVariable : Operation → ℕ → Change
+  editVariable op n = edit op (variableAt p 0 ∷ []) (drop n p ∷ [])
+
+  abbrev pub editGroup : Operation → ℕ → Change
+  editGroup op n = edit op groupMembers (cut (map (sizeOf l) groupMembers) (drop n p))
+
+  -- a request without payload that changes nothing
+  abbrev pub asks : Answer → Line
+  asks a = record { tests = λ busy. noPayload p; change = nothing; answer = a }
+
+  unfoldable pub line : Command → Line
+  line Version = asks (say 0x01 (2 ∷ 20 ∷ 0 ∷ []))
+  line ListVariables = asks (say 0x03 (variableList l))
+  line ListGroups = asks (say 0x05 (groupList l gs))
+  line ShowGroup = record {
+    tests = λ busy. badFront (size≠ p 1) ∷ missing (noGroup gs (groupAt p 0)) ∷ [];
+    change = nothing;
+    answer = say 0x07 (map (λ i. i .0) groupMembers);
+  }
+  line ListCurves = asks (say 0x09 (curveList l))
+  line ListFunctions = asks (say 0x0D (functionList l))
+  line ReadVariable = record {
+    tests = λ busy. badFront (size≠ p 1) ∷ missing (noVariable l (variableAt p 0)) ∷ [];
+    change = nothing;
+    answer = tell 0x11 (variableAt p 0 ∷ []);
+  }
+  line ReadGroup = record {
+    tests = λ busy. badFront (size≠ p 1) ∷ missing (noGroup gs (groupAt p 0)) ∷ [];
+    change = nothing;
+    answer = tell 0x13 groupMembers;
+  }
+  line WriteVariable = record {
+    tests = λ busy. badFront (size< p 1) ∷ missing (noVariable l (variableAt p 0)) ∷ writesVariable l p 1 busy;
+    change = editVariable Replace 1;
+    answer = done;
+  }
+  line WriteGroup = record {
+    tests = λ busy. badFront (size< p 1) ∷ missing (noGroup gs (groupAt p 0)) ∷ writesGroup l gs p 1 busy;
+    change = editGroup Replace 1;
+    answer = done;
+  }
+  line MaskVariable = record {
+    tests = λ busy. badFront (size< p 2) ∷ missing (noVariable l (variableAt p 0)) ∷ badOperation (noOperation (byteAt p 1)) ∷ writesVariable l p 2 busy;
+    change = editVariable (operationOf (byteAt p 1)) 2;
+    answer = done;
+  }
+  line MaskGroup = record {
+    tests = λ busy. badFront (size< p 2) ∷ missing (noGroup gs (groupAt p 0)) ∷ badOperation (noOperation (byteAt p 1)) ∷ writesGroup l gs p 2 busy;
+    change = editGroup (operationOf (byteAt p 1)) 2;
+    answer = done;
+  }
+  line WriteRead = record {
+    tests = λ busy. badFront (size< p 2) ∷ missing (noVariable l (variableAt p 0) || noVariable l (variableAt p 1)) ∷ writesVariable l p 2 busy;
+    change = editVariable Replace 2;
+    answer = tell 0x11 (variableAt p 1 ∷ []);
+  }
+  line MakeGroup = record {
+    tests = λ busy. badFront (size< p 1 || ltb (length (l .sizes)) (length p)) ∷ missing (some (λ i. noVariable l (variable i)) p)
+        ∷ badPlace (not (ascending p)) ∷ isFull (leb 5 (length gs)) ∷ [];
+    change = regroup (gs ++ setOf l (map variable p) ∷ []);
+    answer = done;
+  }
+  line RemoveGroups = record { tests = λ busy. noPayload p; change = regroup []; answer = done }
+  line ReadBlock = record {
+    tests = λ busy. badFront (size≠ p 3) ∷ missing (noCurve l (curveAt p 0)) ∷ badPlace (blockMissing l p) ∷ [];
+    change = nothing;
+    answer = show 0x41 p (blockPlace l (curveAt p 0) (wordAt p 1));
+  }
+  line WriteBlock = record {
+    tests = λ busy. badFront (size< p 3) ∷ missing (noCurve l (curveAt p 0)) ∷ badPlace (blockMissing l p)
+        ∷ badRest (not (within 1 (curveOf l (curveAt p 0) .size) (length p - 3)))
+        ∷ readOnly (not (isWritable (curveOf l (curveAt p 0) .writable))) ∷ [];
+    change = fill (blockPlace l (curveAt p 0) (wordAt p 1)) (drop 3 p);
+    answer = done;
+  }
+  line RunFunction = record {
+    tests = λ busy. badFront (size< p 1) ∷ missing (noFunction l (functionAt p 0)) ∷ badRest (size≠ p (1 + functionOf l (functionAt p 0) .input)) ∷ [];
+    change = nothing;
+    answer = call (functionAt p 0) (drop 1 p);
+  }
+  line Unknown = record { tests = λ busy. badCommand true ∷ []; change = nothing; answer = done }
+
+-- judged without looking at any value ------------------------------------------------------------------------------------
+-- the first error of a command's tests
+unfoldable pub check : Layout → List ℕ → ℕ → List ℕ → Command → Check
+check l gs busy p k = first (line l gs p k .tests busy) Fail Pass
+
+-- "message under 3 bytes, or SIZE not the number of bytes that follow"
+abbrev pub formTests : List ℕ → List (Test WireError)
+formTests m = badMessage (ltb (length m) 3) ∷ badMessage (not (eqb (wordAt m 1) (length m - 3))) ∷ []
+
+unfoldable pub judge : Layout → List ℕ → ℕ → List ℕ → Check
+judge l gs busy m = first (formTests m) Fail (check l gs busy (drop 3 m) (commandOf (byteAt m 0)))
+
+-- what a message asks for
+abbrev pub asked : Layout → List ℕ → List ℕ → Line
+asked l gs m = line l gs (drop 3 m) (commandOf (byteAt m 0))
+
+-- carried out -------------------------------------------------------------------------------------------------------------
+-- an operation on a byte and its mask
+unfoldable pub operated : Operation → ℕ → ℕ → ℕ
+operated Replace old m = m
+operated TurnOn old m = bitOr old m
+operated TurnOff old m = bitAnd old (255 - m)
+operated Invert old m = bitXor old m
+operated KeepOnly old m = bitAnd old m
+operated Other old m = old
+
+-- byte by byte, as far as the shorter goes
+unfoldable pub changed : Operation → List ℕ → List ℕ → List ℕ
+changed op [] ms = []
+changed op (x ∷ xs) [] = []
+changed op (x ∷ xs) (m ∷ ms) = operated op x m ∷ changed op xs ms
+
+-- the values with these variables changed, each by its part
+abbrev pub edited : Operation → List VariableNumber → List (List ℕ) → List (List ℕ) → List (List ℕ)
+edited op [] ps vs = vs
+edited op (i ∷ is) [] vs = vs
+edited op (i ∷ is) (p ∷ ps) vs = edited op is ps (set vs (i .0) (changed op (getD vs (i .0) []) p))
+
+-- "a block write replaces as many of its first bytes as it carries"
+abbrev pub filled : List ℕ → List ℕ → List ℕ
+filled d block = d ++ drop (length d) block
+
+unfoldable pub after : Change → State → State
+after nothing s = s
+after (edit op is ps) s = record { values = edited op is ps (s .values); blocks = s .blocks; groups = s .groups }
+after (fill k d) s = record { values = s .values; blocks = set (s .blocks) k (filled d (blockOf s k)); groups = s .groups }
+after (regroup gs) s = record { values = s .values; blocks = s .blocks; groups = gs }
+
+-- the values of these variables, one after another
+unfoldable pub told : List (List ℕ) → List VariableNumber → List ℕ
+told vs is = join (map (λ i. getD vs (i .0) []) is)
+
+-- what is said to a message: a reply of this code and payload, or that a function is to be run on this input
+pub data Said : Type 0 where
+  replies : ℕ → List ℕ → Said
+  runs : FunctionNumber → List ℕ → Said
+
+unfoldable pub spoken : Answer → State → Said
+spoken (say c p) s = replies c p
+spoken (tell c is) s = replies c (told (s .values) is)
+spoken (show c front k) s = replies c (front ++ blockOf s k)
+spoken (call f i) s = runs f i
+
+-- a message whose check gave v: the state after it ("an error changes values, curves and groups in no byte") ..
+unfoldable pub stateAfter : Line → Check → State → State
+stateAfter l (Fail e) s = s
+stateAfter l Pass s = after (l .change) s
+
+-- .. and what is said, out of that state ("wire errors, each an empty payload")
+unfoldable pub said : Line → Check → State → Said
+said l (Fail e) s = replies (errorCode e) []
+said l Pass s = spoken (l .answer) s
+
+-- a message, judged and carried out
+pub record Handled : Type 0 where
+  pub says : Said
+  pub state : State
+
+unfoldable pub carried : Line → Check → State → Handled
+carried l v s = record { says = said l v (stateAfter l v s); state = stateAfter l v s }
+
+unfoldable pub handled : Layout → (busy : ℕ) → (message : List ℕ) → State → Handled
+handled l busy m s = carried (asked l (s .groups) m) (judge l (s .groups) busy m) s

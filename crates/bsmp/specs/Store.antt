@@ -1,0 +1,57 @@
+-- What a board lends to a call, flat, and what the call leaves there. Assumes nothing.
+use mathlib.Core.List.{List, [], _++_}
+use Prim.Native.Nat.{ℕ}
+use lib.ListN.{length, take, drop}
+use Rattle.bsmp.specs.Base.{sum, cut, join}
+use Rattle.bsmp.specs.Board.{Layout, State, sizeOf, blockSizes}
+use Rattle.bsmp.specs.Packet.{Ending, reply, silence, run, Result}
+use Rattle.bsmp.specs.declared.VariableNumber.{VariableNumber}
+use Rattle.bsmp.specs.declared.Outcome.{Outcome}
+use Rattle.bsmp.specs.declared.Outcome.the-variants.{Reply, Silence, Run, Refused}
+
+-- the two stores and the made groups
+pub record Lent : Type 0 where
+  pub values : List ℕ
+  pub curves : List ℕ
+  pub groups : List ℕ
+
+-- "the bytes of one variable start where those before it end. Curves stand likewise in a second store, block after block"
+abbrev pub held : Layout → Lent → State
+held l x = record { values = cut (l .sizes) (x .values); blocks = cut (blockSizes (l .curves)) (x .curves); groups = x .groups }
+
+-- and the stores that hold a state
+abbrev pub lentOf : State → Lent
+lentOf s = record { values = join (s .values); curves = join (s .blocks); groups = s .groups }
+
+-- where number i starts, for pieces of these lengths; and a variable's bytes in the store
+abbrev pub start : List ℕ → ℕ → ℕ
+start ns i = sum (take i ns)
+
+abbrev pub bytesIn : Layout → List ℕ → VariableNumber → List ℕ
+bytesIn l store i = take (sizeOf l i) (drop (start (l .sizes) (i .0)) store)
+
+-- how the code says an ending: a reply's bytes stand in the buffer, a function's input at place 5 of the packet
+abbrev pub outcomeOf : Ending → Outcome
+outcomeOf (reply r) = Reply (length r)
+outcomeOf silence = Silence
+outcomeOf (run f i due) = Run f (length i) due
+outcomeOf (Ending.refused n) = Refused n
+
+-- "A reply writes its own bytes at the start of the reply buffer and no others; silence, and a function to be run, write none"
+abbrev pub shown : Ending → List ℕ → List ℕ
+shown (reply r) b = r ++ drop (length r) b
+shown silence b = b
+shown (run f i due) b = b
+shown (Ending.refused n) b = b
+
+-- what a call leaves: its outcome, the reply buffer, and what the board then holds
+pub record Left : Type 0 where
+  pub outcome : Outcome
+  pub buffer : List ℕ
+  pub holds : State
+
+abbrev pub left : Outcome → List ℕ → State → Left
+left o b s = record { outcome = o; buffer = b; holds = s }
+
+abbrev pub leaves : Result → (buffer : List ℕ) → Left
+leaves r b = left (outcomeOf (r .ending)) (shown (r .ending) b) (r .state)

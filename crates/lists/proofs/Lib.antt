@@ -1,0 +1,5 @@
+pub mod Put
+pub mod Sum
+pub mod Mask
+pub mod Pieces
+pub mod Blocks
