@@ -1,5 +1,12 @@
 pub mod Computes
 pub mod Bools
+pub mod Lists
 pub mod Chain
 pub mod Store
+pub mod Marks
 pub mod Examples
+pub mod Steps
+pub mod Apart
+pub mod Reading
+pub mod Stays
+pub mod Keeps

@@ -6,3 +6,4 @@ pub mod Packet
 pub mod Number
 pub mod Store
 pub mod Examples
+pub mod Apart

@@ -257,7 +257,7 @@ check l gs busy p k = first (line l gs p k .tests busy) Fail Pass
 
 -- "message under 3 bytes, or SIZE not the number of bytes that follow"
 abbrev pub formTests : List ℕ → List (Test WireError)
-formTests m = badMessage (ltb (length m) 3) ∷ badMessage (not (eqb (wordAt m 1) (length m - 3))) ∷ []
+formTests m = badMessage (ltb (length m) 3 || not (eqb (wordAt m 1) (length m - 3))) ∷ []
 
 unfoldable pub judge : Layout → List ℕ → ℕ → List ℕ → Check
 judge l gs busy m = first (formTests m) Fail (check l gs busy (drop 3 m) (commandOf (byteAt m 0)))

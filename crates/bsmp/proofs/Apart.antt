@@ -1,0 +1,229 @@
+-- Demand 3, proved over demand 2's definition. Assumes nothing.
+use mathlib.Core.Path.{_≡_, refl, sym, ap, ap₂, _∙_, subst, fun-ext}
+use mathlib.Core.Logic.{_↔_, _≢_, _⊎_, inl, inr, ⊎-elim}
+use mathlib.Core.Bool.{Bool, true, false, cond, not, _&&_, _||_, false≢true}
+use mathlib.Core.List.{List, [], _∷_, _++_, map}
+use Prim.Native.Nat.{ℕ, suc, _+_}
+use native.Mathlib.Omega.{arith}
+use native.Mathlib.Decide.{ℕ-discrete}
+use lib.Dec.{eqb}
+use lib.ListN.{length, take, drop, set, getD, length-append, List·getD-map, length-map}
+use lib.Seq.{take-at, drop-at}
+use borrow.Author.Tests.{eqb-true, eqb-false}
+use Rattle.bsmp.specs.Base.{some, first, Test, join}
+use Rattle.bsmp.specs.Board.{variable, Table, Layout, layout, State, valueOf, isSame, usable}
+use Rattle.bsmp.specs.Message.{Change, nothing, edit, fill, regroup, Answer, say, tell, show, call, Line, changed, edited, filled, after, told, Said, replies, runs, spoken, said, stateAfter, Handled, carried, handled, asked, judge}
+use Rattle.bsmp.specs.Packet.{Place, Ending, reply, silence, run, Result, frame, ends, answered, refuse, isOwn, destination, message}
+use Rattle.bsmp.specs.Packet.{boardTests, packetTests, packet, Ran, ranSays, resultTests, functionResult, storeTests, boardStore}
+use Rattle.bsmp.specs.Apart.{Alike, Event, arrives, returns, stores, happen, tells, readBy, readsIn, reads, answerOf, Apart, endings, later, unread}
+use Rattle.bsmp.specs.declared.VariableNumber.{VariableNumber}
+use Rattle.bsmp.specs.declared.FunctionNumber.{FunctionNumber}
+use Rattle.bsmp.specs.declared.Operation.{Operation}
+use Rattle.bsmp.specs.declared.Operation.the-variants.{Replace}
+use Rattle.bsmp.specs.declared.Refusal.{Refusal}
+use Rattle.bsmp.specs.declared.Check.{Check}
+use Rattle.bsmp.specs.declared.Check.the-variants.{Pass, Fail}
+use Rattle.bsmp.proofs.Bools.{or-false, or-true, and-true, and-false}
+use Rattle.bsmp.proofs.Lists.{map-set, length-at, set-at, count-same, parts}
+
+-- numbers of variables
+pub other-number : (i v : VariableNumber) → isSame v i ≡ false → i ≢ v
+other-number i v h e = eqb-false (v .0) (i .0) h (ap (λ x. x .0) (sym e))
+
+pub same-number : (i v : VariableNumber) → isSame v i ≡ true → v ≡ i
+same-number i v h = ap variable (eqb-true (v .0) (i .0) h)
+
+-- lists of values that differ at most at v
+record Near (v : VariableNumber) (xs ys : List (List ℕ)) : Type 0 where
+  others : (i : VariableNumber) → i ≢ v → getD xs (i .0) [] ≡ getD ys (i .0) []
+  lengths : map length xs ≡ map length ys
+
+length-changed : (op : Operation) (x y p : List ℕ) → length x ≡ length y → length (changed op x p) ≡ length (changed op y p)
+unfolding changed
+length-changed op [] [] p h = refl
+length-changed op [] (b ∷ y) p h = absurd (omega (arith, h))
+length-changed op (a ∷ x) [] p h = absurd (omega (arith, h))
+length-changed op (a ∷ x) (b ∷ y) [] h = refl
+length-changed op (a ∷ x) (b ∷ y) (c ∷ p) h = ap suc (length-changed op x y p (omega (arith, h)))
+
+edited-near : (v : VariableNumber) (op : Operation) (is : List VariableNumber) (ps xs ys : List (List ℕ)) → Near v xs ys
+    → Near v (edited op is ps xs) (edited op is ps ys)
+edited-near v op [] ps xs ys h = h
+edited-near v op (i ∷ is) [] xs ys h = h
+edited-near v op (i ∷ is) (p ∷ ps) xs ys h = edited-near v op is ps _ _ record {
+  others = λ j n. set-at xs ys (i .0) (j .0) _ _ [] (count-same xs ys (h .lengths))
+      (λ e. ap (λ x. changed op x p) (h .others i (λ q. n (ap variable e ∙ q)))) (h .others j n);
+  lengths = map-set length xs (i .0) _
+      ∙ ap₂ (λ l n. set l (i .0) n) (h .lengths) (length-changed op (getD xs (i .0) []) (getD ys (i .0) []) p (length-at xs ys (h .lengths) (i .0)))
+      ∙ sym (map-set length ys (i .0) _);
+}
+
+after-alike : (v : VariableNumber) (ch : Change) (s₁ s₂ : State) → Alike v s₁ s₂ → Alike v (after ch s₁) (after ch s₂)
+unfolding after
+after-alike v nothing s₁ s₂ h = h
+after-alike v (edit op is ps) s₁ s₂ h =
+    let n : Near v (edited op is ps (s₁ .values)) (edited op is ps (s₂ .values)) =
+    edited-near v op is ps _ _ record { others = h .others; lengths = h .lengths } in
+    record { others = n .others; lengths = n .lengths; blocks = h .blocks; groups = h .groups }
+after-alike v (fill k d) s₁ s₂ h =
+    record { others = h .others; lengths = h .lengths; blocks = ap (λ l. set l k (filled d (getD l k []))) (h .blocks); groups = h .groups }
+after-alike v (regroup gs) s₁ s₂ h = record { others = h .others; lengths = h .lengths; blocks = h .blocks; groups = refl }
+
+pub usable-alike : (t : Table) (v : VariableNumber) (s₁ s₂ : State) → Alike v s₁ s₂ → usable t s₁ ≡ usable t s₂
+unfolding usable
+usable-alike t v s₁ s₂ h = rw (h .lengths, h .blocks, h .groups)
+
+-- answers -------------------------------------------------------------------------------------------------------------------
+-- a frame shows its payload
+frame-payload : (c : ℕ) (p q : List ℕ) → length p ≡ length q → frame c p ≡ frame c q → p ≡ q
+unfolding frame
+frame-payload c p q n e = parts p q _ _ n (ap (drop 4) e) .0
+
+module _ (v : VariableNumber) (s₁ s₂ : State) (h : Alike v s₁ s₂) where
+  unread-values : (is : List VariableNumber) → some (isSame v) is ≡ false → told (s₁ .values) is ≡ told (s₂ .values) is
+  unfolding told
+  unread-values [] e = refl
+  unread-values (i ∷ is) e =
+      let o : (isSame v i ≡ false) × (some (isSame v) is ≡ false) = or-false _ _ e in
+      ap₂ _++_ (h .others i (other-number i v (o .0))) (unread-values is (o .1))
+
+  told-length : (is : List VariableNumber) → length (told (s₁ .values) is) ≡ length (told (s₂ .values) is)
+  unfolding told
+  told-length [] = refl
+  told-length (i ∷ is) = simp length-append (ap₂ _+_ (length-at (s₁ .values) (s₂ .values) (h .lengths) (i .0)) (told-length is))
+
+  read-values : (is : List VariableNumber) → some (isSame v) is ≡ true → told (s₁ .values) is ≡ told (s₂ .values) is → valueOf s₁ v ≡ valueOf s₂ v
+  unfolding told
+  read-values [] e q = absurd (false≢true e)
+  read-values (i ∷ is) e q =
+      let b : (valueOf s₁ i ≡ valueOf s₂ i) × (told (s₁ .values) is ≡ told (s₂ .values) is) =
+      parts _ _ _ _ (length-at (s₁ .values) (s₂ .values) (h .lengths) (i .0)) q in
+      ⊎-elim (λ r. subst (λ k. valueOf s₁ k ≡ valueOf s₂ k) (sym (same-number i v r)) (b .0)) (λ r. read-values is r (b .1)) (or-true _ _ e)
+
+  everywhere : valueOf s₁ v ≡ valueOf s₂ v → (i : VariableNumber) → Dec (i .0 ≡ v .0) → valueOf s₁ i ≡ valueOf s₂ i
+  everywhere q i (yes e) = subst (λ k. valueOf s₁ k ≡ valueOf s₂ k) (ap variable (sym e)) q
+  everywhere q i (no n) = h .others i (λ e. n (ap (λ x. x .0) e))
+
+  spoken-same : (due : Bool) (an : Answer) → (due && tells v an) ≡ false → ends due (spoken an s₁) ≡ ends due (spoken an s₂)
+  unfolding ends spoken
+  spoken-same due (say c p) e = refl
+  spoken-same true (tell c is) e = ap (λ p. reply (frame c p)) (unread-values is e)
+  spoken-same false (tell c is) e = refl
+  spoken-same due (show c front k) e = ap (λ l. ends due (replies c (front ++ getD l k []))) (h .blocks)
+  spoken-same due (call f i) e = refl
+
+  spoken-told : (due : Bool) (an : Answer) → (due && tells v an) ≡ true
+      → (answerOf (ends due (spoken an s₁)) ≡ answerOf (ends due (spoken an s₂))) ↔ (valueOf s₁ v ≡ valueOf s₂ v)
+  unfolding ends spoken told
+  spoken-told due (say c p) e = absurd (and-false due e)
+  spoken-told true (tell c is) e = (
+    λ q. read-values is e (frame-payload c _ _ (told-length is) q),
+    λ q. ap (λ g. frame c (join (map g is))) (fun-ext (λ i. everywhere q i (ℕ-discrete (i .0) (v .0)))),
+  )
+  spoken-told false (tell c is) e = absurd (false≢true e)
+  spoken-told due (show c front k) e = absurd (and-false due e)
+  spoken-told due (call f i) e = absurd (and-false due e)
+
+-- packets, results and stores ------------------------------------------------------------------------------------------------
+quiet : (v : VariableNumber) (e : Ending) (s₁ s₂ : State) → Alike v s₁ s₂
+    → Apart v (record { ending = e; state = s₁ }) (record { ending = e; state = s₂ }) false
+quiet v e s₁ s₂ h = record { alike = h; same = λ r. refl; told = λ r. absurd (false≢true r) }
+
+carried-apart : (v : VariableNumber) (due : Bool) (l : Line) (c : Check) (s₁ s₂ : State) → Alike v s₁ s₂
+    → Apart v (answered due (carried l c s₁)) (answered due (carried l c s₂)) (due && readBy v l c)
+unfolding carried said stateAfter
+carried-apart v due l (Fail x) s₁ s₂ h = record { alike = h; same = λ e. refl; told = λ e. absurd (and-false due e) }
+carried-apart v due l Pass s₁ s₂ h =
+    let k : Alike v (after (l .change) s₁) (after (l .change) s₂) = after-alike v (l .change) s₁ s₂ h in
+    record { alike = k; same = spoken-same v _ _ k due (l .answer); told = spoken-told v _ _ k due (l .answer) }
+
+handled-apart : (l : Layout) (v : VariableNumber) (busy : ℕ) (due : Bool) (m : List ℕ) (s₁ s₂ : State) → Alike v s₁ s₂
+    → Apart v (answered due (handled l busy m s₁)) (answered due (handled l busy m s₂)) (due && readsIn l (s₁ .groups) busy m v)
+unfolding handled
+handled-apart l v busy due m s₁ s₂ h =
+    subst (λ gs. Apart v (answered due (carried (asked l (s₁ .groups) m) (judge l (s₁ .groups) busy m) s₁))
+    (answered due (carried (asked l gs m) (judge l gs busy m) s₂)) (due && readsIn l (s₁ .groups) busy m v))
+    (h .groups) (carried-apart v due (asked l (s₁ .groups) m) (judge l (s₁ .groups) busy m) s₁ s₂ h)
+
+cond-apart : (v : VariableNumber) (b : Bool) {x₁ y₁ x₂ y₂ : Result} {z₁ z₂ : Bool} → Apart v x₁ y₁ z₁ → Apart v x₂ y₂ z₂
+    → Apart v (cond b x₁ x₂) (cond b y₁ y₂) (cond b z₁ z₂)
+cond-apart v true p q = p
+cond-apart v false p q = q
+
+-- a refusal is the same on both boards and leaves both alone
+first-apart : (v : VariableNumber) (ts : List (Test Refusal)) (s₁ s₂ : State) (x y : Result) (z : Bool) → Alike v s₁ s₂ → Apart v x y z
+    → Apart v (first ts (refuse s₁) x) (first ts (refuse s₂) y) (first ts (λ r. false) z)
+unfolding first
+first-apart v [] s₁ s₂ x y z a h = h
+first-apart v (u ∷ us) s₁ s₂ x y z a h =
+    cond-apart v (u .broken) (quiet v (Ending.refused (u .error)) s₁ s₂ a) (first-apart v us s₁ s₂ x y z a h)
+
+-- an entry that never reads
+cond-quiet : (v : VariableNumber) (b : Bool) {x₁ y₁ x₂ y₂ : Result} → Apart v x₁ y₁ false → Apart v x₂ y₂ false → Apart v (cond b x₁ x₂) (cond b y₁ y₂) false
+cond-quiet v true p q = p
+cond-quiet v false p q = q
+
+first-quiet : (v : VariableNumber) (ts : List (Test Refusal)) (s₁ s₂ : State) (x y : Result) → Alike v s₁ s₂ → Apart v x y false
+    → Apart v (first ts (refuse s₁) x) (first ts (refuse s₂) y) false
+unfolding first
+first-quiet v [] s₁ s₂ x y a h = h
+first-quiet v (u ∷ us) s₁ s₂ x y a h =
+    cond-quiet v (u .broken) (quiet v (Ending.refused (u .error)) s₁ s₂ a) (first-quiet v us s₁ s₂ x y a h)
+
+packet-apart : (t : Table) (a : Place) (v : VariableNumber) (busy room : ℕ) (p : List ℕ) (s₁ s₂ : State) → Alike v s₁ s₂
+    → Apart v (packet t a busy room p s₁) (packet t a busy room p s₂) (reads t a v (arrives busy room p) s₁)
+unfolding packet
+packet-apart t a v busy room p s₁ s₂ h =
+    rw (← usable-alike t v s₁ s₂ h)
+    (first-apart v (boardTests (usable t s₁) a room) s₁ s₂ _ _ _ h
+    (first-apart v (packetTests a p) s₁ s₂ _ _ _ h
+    (handled-apart (layout t) v busy (isOwn a (destination p)) (message p) s₁ s₂ h)))
+
+result-apart : (t : Table) (v : VariableNumber) (room : ℕ) (f : FunctionNumber) (due : Bool) (r : Ran) (s₁ s₂ : State) → Alike v s₁ s₂
+    → Apart v (functionResult t room f due r s₁) (functionResult t room f due r s₂) false
+unfolding functionResult
+result-apart t v room f due r s₁ s₂ h =
+    rw (← usable-alike t v s₁ s₂ h)
+    (first-quiet v (resultTests (usable t s₁) (layout t) room f r) s₁ s₂ _ _ h (quiet v (ends due (ranSays r)) s₁ s₂ h))
+
+store-apart : (t : Table) (v i : VariableNumber) (b : List ℕ) (s₁ s₂ : State) → Alike v s₁ s₂
+    → Apart v (boardStore t i b s₁) (boardStore t i b s₂) false
+unfolding boardStore
+store-apart t v i b s₁ s₂ h =
+    rw (← usable-alike t v s₁ s₂ h)
+    (first-quiet v (storeTests (usable t s₁) (layout t) i b) s₁ s₂ _ _ h
+    (quiet v silence _ _ (after-alike v (edit Replace (i ∷ []) (b ∷ [])) s₁ s₂ h)))
+
+-- one event
+pub step : (t : Table) (a : Place) (v : VariableNumber) (e : Event) (s₁ s₂ : State) → Alike v s₁ s₂
+    → Apart v (happen t a e s₁) (happen t a e s₂) (reads t a v e s₁)
+step t a v (arrives busy room p) s₁ s₂ h = packet-apart t a v busy room p s₁ s₂ h
+step t a v (returns room f due r) s₁ s₂ h = result-apart t v room f due r s₁ s₂ h
+step t a v (stores i b) s₁ s₂ h = store-apart t v i b s₁ s₂ h
+
+pub unread-head : (a b : Bool) → (not a && b) ≡ true → (a ≡ false) × (b ≡ true)
+unread-head true b e = absurd (false≢true e)
+unread-head false b e = (refl, e)
+
+module _ (t : Table) (a : Place) (v : VariableNumber) where
+  -- all events before the first that reads v
+  pub before : (es : List Event) (s₁ s₂ : State) → Alike v s₁ s₂ → unread t a v es s₁ ≡ true
+      → (endings t a es s₁ ≡ endings t a es s₂) × Alike v (later t a es s₁) (later t a es s₂)
+  before [] s₁ s₂ h u = (refl, h)
+  before (e ∷ es) s₁ s₂ h u =
+      let q : (reads t a v e s₁ ≡ false) × (unread t a v es (happen t a e s₁ .state) ≡ true) = unread-head _ _ u in
+      let w : Apart v (happen t a e s₁) (happen t a e s₂) (reads t a v e s₁) = step t a v e s₁ s₂ h in
+      let r : (endings t a es (happen t a e s₁ .state) ≡ endings t a es (happen t a e s₂ .state))
+      × Alike v (later t a es (happen t a e s₁ .state)) (later t a es (happen t a e s₂ .state)) =
+      before es _ _ (w .alike) (q .1) in
+      (ap₂ _∷_ (w .same (q .0)) (r .0), r .1)
+
+  -- demand 3, whole: events that do not read v, and then one that does
+  pub apart : (es : List Event) (e : Event) (s₁ s₂ : State) → Alike v s₁ s₂ → unread t a v es s₁ ≡ true → reads t a v e (later t a es s₁) ≡ true
+      → (endings t a es s₁ ≡ endings t a es s₂)
+      × Alike v (later t a es s₁) (later t a es s₂)
+      × ((answerOf (happen t a e (later t a es s₁) .ending) ≡ answerOf (happen t a e (later t a es s₂) .ending))
+      ↔ (valueOf (happen t a e (later t a es s₁) .state) v ≡ valueOf (happen t a e (later t a es s₂) .state) v))
+  apart es e s₁ s₂ h u r =
+      let b : (endings t a es s₁ ≡ endings t a es s₂) × Alike v (later t a es s₁) (later t a es s₂) = before es s₁ s₂ h u in
+      (b .0, b .1, step t a v e _ _ (b .1) .told r)

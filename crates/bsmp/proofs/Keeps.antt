@@ -1,0 +1,88 @@
+-- What nothing changes: a local refusal, a wire error; and a multicast is never answered. Assumes nothing.
+use mathlib.Core.Path.{_≡_, refl, sym, ap, ap₂, _∙_}
+use mathlib.Core.Bool.{Bool, true, false, cond, false≢true}
+use mathlib.Core.List.{List, [], _∷_, _++_}
+use Prim.Native.Nat.{ℕ, _-_, _+_, _≤_}
+use native.Mathlib.Omega.{arith}
+use lib.ListN.{length, take, drop}
+use Rattle.bsmp.specs.Base.{first}
+use Rattle.bsmp.specs.Board.{Table, Layout, layout, State, blockSizes, usable}
+use Rattle.bsmp.specs.Message.{Said, replies, runs, Line, carried, stateAfter, handled, asked, judge}
+use Rattle.bsmp.specs.Packet.{Place, Ending, reply, silence, run, Result, refuse, ends, boardTests, packetTests, packet, Ran, ranSays, resultTests, functionResult, storeTests, boardStore, isOwn, destination, message}
+use Rattle.bsmp.specs.Store.{Lent, held, lentOf, outcomeOf, shown, leaves}
+use Rattle.bsmp.specs.Apart.{Event, arrives, returns, stores, happen, Call, eventOf, bufferOf, leftBy}
+use Rattle.bsmp.specs.declared.Refusal.{Refusal}
+use Rattle.bsmp.specs.declared.WireError.{WireError}
+use Rattle.bsmp.specs.declared.Check.{Check}
+use Rattle.bsmp.specs.declared.Check.the-variants.{Pass, Fail}
+use Rattle.bsmp.specs.declared.Outcome.{Outcome}
+use Rattle.bsmp.specs.declared.Outcome.the-variants.{Reply, Silence, Run, Refused}
+use Rattle.bsmp.proofs.Chain.{first-case}
+use Rattle.bsmp.proofs.Store.{join-cut}
+
+-- "An error changes values, curves and groups in no byte"
+pub error-keeps : (l : Layout) (busy : ℕ) (m : List ℕ) (s : State) (e : WireError) → judge l (s .groups) busy m ≡ Fail e → handled l busy m s .state ≡ s
+unfolding handled carried stateAfter
+error-keeps l busy m s e h = ap (λ v. stateAfter (asked l (s .groups) m) v s) h
+
+-- the ending is no local refusal
+abbrev Allowed : Ending → Type 0
+Allowed e = (r : Refusal) → e ≡ Ending.refused r → ⊥
+
+ends-allowed : (due : Bool) (x : Said) → Allowed (ends due x)
+unfolding ends
+ends-allowed true (replies c p) r h = let z : _≡_ {A = ℕ} 0 1 = cc in absurd (omega arith)
+ends-allowed false (replies c p) r h = let z : _≡_ {A = ℕ} 0 1 = cc in absurd (omega arith)
+ends-allowed due (runs f i) r h = let z : _≡_ {A = ℕ} 0 1 = cc in absurd (omega arith)
+
+silence-allowed : Allowed silence
+silence-allowed r h = let z : _≡_ {A = ℕ} 0 1 = cc in absurd (omega arith)
+
+-- "A local refusal returns its number only and changes no byte of any store, group table"
+pub refusal-keeps : (t : Table) (a : Place) (e : Event) (s : State) (r : Refusal) → happen t a e s .ending ≡ Ending.refused r → happen t a e s .state ≡ s
+unfolding packet functionResult boardStore
+refusal-keeps t a (arrives busy room p) s r =
+    first-case (λ x. x .ending ≡ Ending.refused r → x .state ≡ s) (boardTests (usable t s) a room) (refuse s) _ (λ m h. refl)
+    (λ c. first-case (λ x. x .ending ≡ Ending.refused r → x .state ≡ s) (packetTests a p) (refuse s) _ (λ m h. refl)
+    (λ d h. absurd (ends-allowed _ _ r h)))
+refusal-keeps t a (returns room f due ran) s r =
+    first-case (λ x. x .ending ≡ Ending.refused r → x .state ≡ s) (resultTests (usable t s) (layout t) room f ran) (refuse s) _ (λ m h. refl)
+    (λ c h. refl)
+refusal-keeps t a (stores i b) s r =
+    first-case (λ x. x .ending ≡ Ending.refused r → x .state ≡ s) (storeTests (usable t s) (layout t) i b) (refuse s) _ (λ m h. refl)
+    (λ c h. absurd (silence-allowed r h))
+
+outcome-refused : (e : Ending) (r : Refusal) → outcomeOf e ≡ Refused r → e ≡ Ending.refused r
+outcome-refused (reply b) r h = cc
+outcome-refused silence r h = cc
+outcome-refused (run f i due) r h = cc
+outcome-refused (Ending.refused m) r h = cc
+
+-- the same over what is lent: no byte of any store, group table or buffer, whatever their lengths
+pub refusal-keeps-lent : (t : Table) (a : Place) (c : Call) (x : Lent) (r : Refusal) → leftBy t a c x .outcome ≡ Refused r
+    → (lentOf (leftBy t a c x .holds) ≡ x) × (leftBy t a c x .buffer ≡ bufferOf c)
+refusal-keeps-lent t a c x r h =
+    let o : happen t a (eventOf c) (held (layout t) x) .ending ≡ Ending.refused r = outcome-refused _ r h in (
+      ap lentOf (refusal-keeps t a (eventOf c) (held (layout t) x) r o)
+          ∙ ap₂ (λ vs cs. record { values = vs; curves = cs; groups = x .groups }) (join-cut (layout t .sizes) (x .values)) (join-cut (blockSizes (t .curves)) (x .curves)),
+      ap (λ e. shown e (bufferOf c)) o,
+    )
+
+-- "Packets to 248..255 are carried out .., and never answered"
+abbrev Unanswered : Ending → Type 0
+Unanswered e = (r : List ℕ) → e ≡ reply r → ⊥
+
+refused-unanswered : (m : Refusal) → Unanswered (Ending.refused m)
+refused-unanswered m r h = let z : _≡_ {A = ℕ} 0 1 = cc in absurd (omega arith)
+
+not-due : (x : Said) → Unanswered (ends false x)
+unfolding ends
+not-due (replies c p) r h = let z : _≡_ {A = ℕ} 0 1 = cc in absurd (omega arith)
+not-due (runs f i) r h = let z : _≡_ {A = ℕ} 0 1 = cc in absurd (omega arith)
+
+pub never-answered : (t : Table) (a : Place) (busy room : ℕ) (p : List ℕ) (s : State) → isOwn a (destination p) ≡ false
+    → (r : List ℕ) → packet t a busy room p s .ending ≡ reply r → ⊥
+unfolding packet
+never-answered t a busy room p s h =
+    first-case (λ x. Unanswered (x .ending)) (boardTests (usable t s) a room) (refuse s) _ refused-unanswered
+    (λ c. first-case (λ x. Unanswered (x .ending)) (packetTests a p) (refuse s) _ refused-unanswered (λ d. rw h (not-due _)))

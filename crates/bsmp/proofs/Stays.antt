@@ -1,0 +1,232 @@
+-- A usable board stays usable after every event, and its flat stores hold it from call to call. Assumes nothing.
+use mathlib.Core.Path.{_≡_, refl, sym, ap, ap₂, _∙_}
+use mathlib.Core.Bool.{Bool, true, false, cond, not, _&&_, _||_, true≢false}
+use mathlib.Core.List.{List, [], _∷_, _++_, map, head-eq-of-cons-eq, tail-eq-of-cons-eq}
+use Prim.Native.Nat.{ℕ, zero, suc, _+_, _-_, _*_, _^_, _≤_, _<_}
+use native.Mathlib.Omega.{arith}
+use native.Mathlib.Nat.{zero-add, add-assoc}
+use lib.Dec.{eqb, leb, ltb}
+use lib.ListN.{length, take, drop, set, getD, replicate, length-append, length-drop, length-map, length-replicate, getD-replicate, List·getD-append, List·getD-map}
+use lib.Seq.{set-getD, getD-append-add}
+use borrow.Author.Tests.{eq-eqb, eqb-true, leb-true, leb-false, ltb-true, ltb-false, not-false, le-leb, lt-ltb}
+use Rattle.bsmp.specs.Base.{Test, test, first, some, all, every, sum, join, cut, within, ascending, byteAt, wordAt, marksOf, upFrom}
+use Rattle.bsmp.specs.Codes.{commandOf}
+use Rattle.bsmp.specs.Board.{variable, curve, Table, Layout, layout, State, valueOf, blockOf, sizesOf, sizeOf, variables, isSame, members, groupBytes, setOf, noCurve, curveOf, blockSizes, blockPlace}
+use Rattle.bsmp.specs.Board.{rules, usable, usableVariables, usableCurves, usableFunctions, usableGroups}
+use Rattle.bsmp.specs.Message.{Change, nothing, edit, fill, regroup, writesVariable, writesGroup, Line, line, check, formTests, judge, asked, changed, edited, filled, after, stateAfter, carried, handled}
+use Rattle.bsmp.specs.Packet.{Place, Result, refuse, boardTests, packetTests, packet, Ran, resultTests, functionResult, storeTests, boardStore, isOwn, destination, message}
+use Rattle.bsmp.specs.Store.{Lent, held, lentOf}
+use Rattle.bsmp.specs.Apart.{Event, arrives, returns, stores, happen}
+use Rattle.bsmp.specs.declared.VariableNumber.{VariableNumber}
+use Rattle.bsmp.specs.declared.CurveNumber.{CurveNumber}
+use Rattle.bsmp.specs.declared.Curve.{Curve}
+use Rattle.bsmp.specs.declared.Operation.{Operation}
+use Rattle.bsmp.specs.declared.Operation.the-variants.{Replace}
+use Rattle.bsmp.specs.declared.Command.{Command}
+use Rattle.bsmp.specs.declared.Command.the-variants.{Version, ListVariables, ListGroups, ShowGroup, ListCurves, ListFunctions, ReadVariable, ReadGroup, WriteVariable, WriteGroup}
+use Rattle.bsmp.specs.declared.Command.the-variants.{MaskVariable, MaskGroup, WriteRead, MakeGroup, RemoveGroups, ReadBlock, WriteBlock, RunFunction, Unknown}
+use Rattle.bsmp.specs.declared.WireError.{WireError}
+use Rattle.bsmp.specs.declared.Check.{Check}
+use Rattle.bsmp.specs.declared.Check.the-variants.{Pass, Fail}
+use Rattle.bsmp.proofs.Bools.{or-false, and-true, all-at}
+use Rattle.bsmp.proofs.Lists.{map-set, map-map, every-last, length-upFrom}
+use Rattle.bsmp.proofs.Chain.{clear, clear-at, broken-at, first-case}
+use Rattle.bsmp.proofs.Store.{cut-join, lengths-cut, same-eq}
+use Rattle.bsmp.proofs.Marks.{marks-below, marks-some, at-number}
+
+-- what a change must be to leave a usable board -----------------------------------------------------------------------------
+abbrev pub Fits : Table → State → Change → Type 0
+Fits t s nothing = Unit {0}
+Fits t s (edit op is ps) = map length ps ≡ map (sizeOf (layout t)) is
+Fits t s (fill k d) = length d ≤ length (blockOf s k)
+Fits t s (regroup gs) = usableGroups (length (t .variables)) gs ≡ true
+
+-- usability goes by lengths and groups alone
+usable-by : (t : Table) (s s′ : State) → map length (s .values) ≡ map length (s′ .values) → map length (s .blocks) ≡ map length (s′ .blocks)
+    → s .groups ≡ s′ .groups → usable t s ≡ usable t s′
+unfolding usable
+usable-by t s s′ a b c = rw (a, b, c)
+
+-- what a usable board's stores and groups are
+pub record Kept (t : Table) (s : State) : Type 0 where
+  pub values : map length (s .values) ≡ sizesOf (t .variables)
+  pub blocks : map length (s .blocks) ≡ blockSizes (t .curves)
+  pub groups : usableGroups (length (t .variables)) (s .groups) ≡ true
+
+pub kept : (t : Table) (s : State) → usable t s ≡ true → Kept t s
+unfolding usable
+kept t s h = record {
+  values = same-eq _ _ (all-at (rules t s) h 1);
+  blocks = same-eq _ _ (all-at (rules t s) h 3);
+  groups = all-at (rules t s) h 5;
+}
+
+pub value-length : (t : Table) (s : State) → Kept t s → (i : VariableNumber) → length (valueOf s i) ≡ sizeOf (layout t) i
+value-length t s u i = sym (List·getD-map length (s .values) (i .0) []) ∙ ap (λ l. getD l (i .0) 0) (u .values)
+
+pub changed-length : (op : Operation) (x p : List ℕ) → length p ≡ length x → length (changed op x p) ≡ length x
+unfolding changed
+changed-length op [] p h = refl
+changed-length op (a ∷ x) [] h = absurd (omega (arith, h))
+changed-length op (a ∷ x) (b ∷ p) h = ap suc (changed-length op x p (omega (arith, h)))
+
+edited-lengths : (l : Layout) (op : Operation) (is : List VariableNumber) (ps vs : List (List ℕ)) → map length vs ≡ l .sizes
+    → map length ps ≡ map (sizeOf l) is → map length (edited op is ps vs) ≡ map length vs
+edited-lengths l op [] ps vs u h = refl
+edited-lengths l op (i ∷ is) [] vs u h = refl
+edited-lengths l op (i ∷ is) (p ∷ ps) vs u h =
+    let n : ℕ = i .0 in
+    let old : length (getD vs n []) ≡ sizeOf l i = sym (List·getD-map length vs n []) ∙ ap (λ x. getD x n 0) u in
+    let one : length (changed op (getD vs n []) p) ≡ length (getD vs n []) = changed-length op (getD vs n []) p (head-eq-of-cons-eq h ∙ sym old) in
+    let same′ : map length (set vs n (changed op (getD vs n []) p)) ≡ map length vs =
+    map-set length vs n _ ∙ ap (set (map length vs) n) (one ∙ sym (List·getD-map length vs n [])) ∙ set-getD (map length vs) n 0 in
+    edited-lengths l op is ps _ (same′ ∙ u) (tail-eq-of-cons-eq h) ∙ same′
+
+last-rule : (bs : List Bool) (b c : Bool) → all (bs ++ b ∷ []) ≡ true → c ≡ true → all (bs ++ c ∷ []) ≡ true
+last-rule [] b c h k = rw k
+last-rule (x ∷ xs) b c h k =
+    let w : (x ≡ true) × (all (xs ++ b ∷ []) ≡ true) = and-true x _ h in rw (w .0) (last-rule xs b c (w .1) k)
+
+regrouped : (t : Table) (s : State) (gs : List ℕ) → usable t s ≡ true → usableGroups (length (t .variables)) gs ≡ true
+    → usable t (record { values = s .values; blocks = s .blocks; groups = gs }) ≡ true
+unfolding usable
+regrouped t s gs h k = last-rule (take 5 (rules t s)) (usableGroups (length (t .variables)) (s .groups)) _ h k
+
+pub after-usable : (t : Table) (s : State) (ch : Change) → usable t s ≡ true → Fits t s ch → usable t (after ch s) ≡ true
+unfolding after
+after-usable t s nothing h k = h
+after-usable t s (edit op is ps) h k = usable-by t _ s (edited-lengths (layout t) op is ps (s .values) (kept t s h .values) k) refl refl ∙ h
+after-usable t s (fill i d) h k =
+    let one : length (filled d (blockOf s i)) ≡ length (blockOf s i) = simp (length-append, length-drop) (omega arith) in
+    usable-by t _ s refl
+    (map-set length (s .blocks) i _ ∙ ap (set (map length (s .blocks)) i) (one ∙ sym (List·getD-map length (s .blocks) i []))
+    ∙ set-getD (map length (s .blocks)) i 0) refl
+    ∙ h
+after-usable t s (regroup gs) h k = regrouped t s gs h k
+
+-- each command's change fits where its tests pass ---------------------------------------------------------------------------
+-- the size of a curve's block
+pub block-size : (cs : List Curve) (c k : ℕ) → c < length cs → k < getD cs c noCurve .blocks
+    → getD (blockSizes cs) (sum (map (λ x. x .blocks) (take c cs)) + k) 0 ≡ getD cs c noCurve .size
+unfolding sum
+block-size [] c k h l = absurd (omega (arith, h))
+block-size (x ∷ cs) zero k h l =
+    rw (zero-add k) (List·getD-append (replicate (x .blocks) (x .size)) (blockSizes cs) 0 k (rw length-replicate l)
+    ∙ getD-replicate (x .blocks) k (x .size) 0 l)
+block-size (x ∷ cs) (suc c) k h l =
+    let before : ℕ = sum (map (λ y. y .blocks) (take c cs)) in
+    ap (λ i. getD (replicate (x .blocks) (x .size) ++ blockSizes cs) i 0)
+    (add-assoc (x .blocks) before k ∙ ap (_+ (before + k)) (sym (length-replicate (x .blocks) (x .size))))
+    ∙ getD-append-add (replicate (x .blocks) (x .size)) (blockSizes cs) (before + k) 0
+    ∙ block-size cs c k (omega (arith, h)) l
+
+pub block-length : (t : Table) (s : State) → Kept t s → (c : CurveNumber) (k : ℕ) → c .0 < length (t .curves) → k < curveOf (layout t) c .blocks
+    → length (blockOf s (blockPlace (layout t) c k)) ≡ curveOf (layout t) c .size
+block-length t s u c k a b =
+    sym (List·getD-map length (s .blocks) (blockPlace (layout t) c k) []) ∙ ap (λ x. getD x (blockPlace (layout t) c k) 0) (u .blocks)
+    ∙ block-size (t .curves) (c .0) k a b
+
+drop-rest : (n m : ℕ) (p : List ℕ) → not (eqb (length p) (n + m)) ≡ false → length (drop n p) ≡ m
+drop-rest n m p h = let e : length p ≡ n + m = eqb-true _ _ (not-false _ h) in simp length-drop (omega arith)
+
+-- the set of a new group: declared variables only, and not empty
+set-below : (l : Layout) (is : List VariableNumber) → setOf l is < 2 ^ length (l .sizes)
+unfolding setOf
+set-below l is =
+    let f : VariableNumber → Bool = λ i. some (isSame i) is in
+    let e : length (map f (variables l)) ≡ length (l .sizes) = length-map (variables l) f ∙ length-map (upFrom 0 (length (l .sizes))) variable ∙ length-upFrom 0 (length (l .sizes)) in
+    rw e at (marks-below (map f (variables l)))
+
+set-some : (l : Layout) (i : ℕ) (is : List VariableNumber) → i < length (l .sizes) → 0 < setOf l (variable i ∷ is)
+unfolding setOf
+set-some l i is h =
+    let f : VariableNumber → Bool = λ j. some (isSame j) (variable i ∷ is) in
+    let e : getD (map f (variables l)) i false ≡ f (variable (0 + i)) =
+    ap (λ x. getD x i false) (map-map variable f (upFrom 0 (length (l .sizes)))) ∙ at-number (λ k. f (variable k)) 0 (length (l .sizes)) i false h in
+    marks-some (map f (variables l)) i (e ∙ rw (zero-add i, eq-eqb i i refl))
+
+new-group : (l : Layout) (gs p : List ℕ) → usableGroups (length (l .sizes)) gs ≡ true → ltb (length p) 1 ≡ false
+    → some (λ i. not (ltb i (length (l .sizes)))) p ≡ false → leb 5 (length gs) ≡ false
+    → usableGroups (length (l .sizes)) (gs ++ setOf l (map variable p) ∷ []) ≡ true
+unfolding usableGroups
+new-group l gs [] h a c d = absurd (true≢false a)
+new-group l gs (x ∷ p) h a c d =
+    let n : ℕ = length (l .sizes) in
+    let m : ℕ = setOf l (map variable (x ∷ p)) in
+    let w : (leb (length gs) 5 ≡ true) × (every (λ m. ltb 0 m && ltb m (2 ^ n)) gs ≡ true) = and-true _ _ h in
+    let few : length gs < 5 = leb-false 5 (length gs) d in
+    let known : x < n = ltb-true x n (not-false _ (or-false _ _ c .0)) in
+    rw (le-leb (length (gs ++ m ∷ [])) 5 (simp length-append (omega arith)))
+    (every-last _ gs m (w .1) (rw (lt-ltb 0 m (set-some l x (map variable p) known)) (lt-ltb m (2 ^ n) (set-below l (map variable (x ∷ p))))))
+
+no-groups : (n : ℕ) → usableGroups n [] ≡ true
+unfolding usableGroups
+no-groups n = refl
+
+module _ (t : Table) (s : State) (busy : ℕ) (p : List ℕ) (h : usable t s ≡ true) where
+  abbrev row : Command → Line
+  row k = line (layout t) (s .groups) p k
+
+  pub line-fits : (k : Command) → clear (row k .tests busy) → Fits t s (row k .change)
+  unfolding line writesVariable writesGroup groupBytes
+  line-fits Version c = tt
+  line-fits ListVariables c = tt
+  line-fits ListGroups c = tt
+  line-fits ShowGroup c = tt
+  line-fits ListCurves c = tt
+  line-fits ListFunctions c = tt
+  line-fits ReadVariable c = tt
+  line-fits ReadGroup c = tt
+  line-fits WriteVariable c = ap (_∷ []) (drop-rest 1 _ p (clear-at (row WriteVariable .tests busy) c 2))
+  line-fits WriteGroup c = lengths-cut _ _ (drop-rest 1 _ p (clear-at (row WriteGroup .tests busy) c 2))
+  line-fits MaskVariable c = ap (_∷ []) (drop-rest 2 _ p (clear-at (row MaskVariable .tests busy) c 3))
+  line-fits MaskGroup c = lengths-cut _ _ (drop-rest 2 _ p (clear-at (row MaskGroup .tests busy) c 3))
+  line-fits WriteRead c = ap (_∷ []) (drop-rest 2 _ p (clear-at (row WriteRead .tests busy) c 2))
+  line-fits MakeGroup c =
+      let at : (j : ℕ) → broken-at (row MakeGroup .tests busy) j ≡ false = clear-at (row MakeGroup .tests busy) c in
+      let e : length (layout t .sizes) ≡ length (t .variables) = length-map (t .variables) (λ v. v .size) in
+      rw e at (new-group (layout t) (s .groups) p (rw e (kept t s h .groups)) (or-false _ _ (at 0) .0) (at 1) (at 3))
+  line-fits RemoveGroups c = no-groups (length (t .variables))
+  line-fits ReadBlock c = tt
+  line-fits WriteBlock c =
+      let at : (j : ℕ) → broken-at (row WriteBlock .tests busy) j ≡ false = clear-at (row WriteBlock .tests busy) c in
+      let d : length (drop 3 p) ≤ curveOf (layout t) (curve (byteAt p 0)) .size =
+      rw length-drop (leb-true _ _ (and-true (leb 1 (length p - 3)) _ (not-false _ (at 3)) .1)) in
+      rw (block-length t s (kept t s h) (curve (byteAt p 0)) (wordAt p 1) (ltb-true _ _ (not-false _ (at 1))) (ltb-true _ _ (not-false _ (at 2)))) d
+  line-fits RunFunction c = tt
+  line-fits Unknown c = tt
+
+-- messages, packets, results and stores --------------------------------------------------------------------------------------
+-- where a message passes, all its command's tests do
+pub judge-case : (l : Layout) (gs : List ℕ) (busy : ℕ) (m : List ℕ) (P : Check → Type 0) → ((e : WireError) → P (Fail e))
+    → (clear (asked l gs m .tests busy) → P Pass) → P (judge l gs busy m)
+unfolding judge check
+judge-case l gs busy m P f g =
+    first-case P (formTests m) Fail (check l gs busy (drop 3 m) (commandOf (byteAt m 0))) f
+    (λ c. first-case P (asked l gs m .tests busy) Fail Pass f g)
+
+handled-usable : (t : Table) (busy : ℕ) (m : List ℕ) (s : State) → usable t s ≡ true → usable t (handled (layout t) busy m s .state) ≡ true
+unfolding handled carried stateAfter
+handled-usable t busy m s h =
+    judge-case (layout t) (s .groups) busy m (λ v. usable t (carried (asked (layout t) (s .groups) m) v s .state) ≡ true) (λ e. h)
+    (λ c. after-usable t s _ h (line-fits t s busy (drop 3 m) h (commandOf (byteAt m 0)) c))
+
+pub stays : (t : Table) (a : Place) (e : Event) (s : State) → usable t s ≡ true → usable t (happen t a e s .state) ≡ true
+unfolding packet functionResult boardStore
+stays t a (arrives busy room p) s h =
+    first-case (λ r. usable t (r .state) ≡ true) (boardTests (usable t s) a room) (refuse s) _ (λ n. h)
+    (λ c. first-case (λ r. usable t (r .state) ≡ true) (packetTests a p) (refuse s) _ (λ n. h) (λ d. handled-usable t busy (message p) s h))
+stays t a (returns room f due r) s h =
+    first-case (λ x. usable t (x .state) ≡ true) (resultTests (usable t s) (layout t) room f r) (refuse s) _ (λ n. h) (λ c. h)
+stays t a (stores i b) s h =
+    first-case (λ x. usable t (x .state) ≡ true) (storeTests (usable t s) (layout t) i b) (refuse s) _ (λ n. h)
+    (λ c. after-usable t s (edit Replace (i ∷ []) (b ∷ [])) h
+    (ap (_∷ []) (eqb-true _ _ (not-false _ (clear-at (storeTests (usable t s) (layout t) i b) c 2)))))
+
+-- a usable board's stores hold it: its pieces are found again where they were put
+pub held-again : (t : Table) (s : State) → usable t s ≡ true → held (layout t) (lentOf s) ≡ s
+held-again t s h =
+    let u : Kept t s = kept t s h in
+    ap₂ (λ vs bs. record { values = vs; blocks = bs; groups = s .groups })
+    (ap (λ ns. cut ns (join (s .values))) (sym (u .values)) ∙ cut-join (s .values))
+    (ap (λ ns. cut ns (join (s .blocks))) (sym (u .blocks)) ∙ cut-join (s .blocks))

@@ -1,0 +1,135 @@
+-- Demand 3: what is said of two boards that differ in one variable's bytes, over the definition and over what is lent.
+-- Assumes nothing.
+use mathlib.Core.Path.{_≡_}
+use mathlib.Core.Logic.{_↔_, _≢_}
+use mathlib.Core.Bool.{Bool, true, false, not, _&&_}
+use mathlib.Core.List.{List, [], _∷_, map}
+use Prim.Native.Nat.{ℕ, _<_}
+use lib.ListN.{length, take}
+use Rattle.bsmp.specs.Base.{some, first}
+use Rattle.bsmp.specs.Board.{Table, Layout, layout, State, valueOf, isSame, usable}
+use Rattle.bsmp.specs.Message.{Answer, say, tell, show, call, Line, asked, judge}
+use Rattle.bsmp.specs.Packet.{Place, Ending, reply, silence, run, Result, isOwn, destination, message, boardTests, packetTests, packet, Ran, functionResult, boardStore}
+use Rattle.bsmp.specs.Store.{Lent, held, lentOf, bytesIn, Left, leaves}
+use Rattle.bsmp.specs.declared.VariableNumber.{VariableNumber}
+use Rattle.bsmp.specs.declared.FunctionNumber.{FunctionNumber}
+use Rattle.bsmp.specs.declared.Check.{Check}
+use Rattle.bsmp.specs.declared.Check.the-variants.{Pass, Fail}
+use Rattle.bsmp.specs.declared.Outcome.{Outcome}
+use Rattle.bsmp.specs.declared.Outcome.the-variants.{Reply, Silence, Run, Refused}
+
+-- the states differ at most in the bytes of variable v
+pub record Alike (v : VariableNumber) (s₁ s₂ : State) : Type 0 where
+  pub others : (i : VariableNumber) → i ≢ v → valueOf s₁ i ≡ valueOf s₂ i
+  pub lengths : map length (s₁ .values) ≡ map length (s₂ .values)
+  pub blocks : s₁ .blocks ≡ s₂ .blocks
+  pub groups : s₁ .groups ≡ s₂ .groups
+
+-- "packets, function results and board stores", each with its busy marks and the length of its reply buffer
+pub data Event : Type 0 where
+  arrives : (busy room : ℕ) → List ℕ → Event
+  returns : (room : ℕ) → FunctionNumber → (due : Bool) → Ran → Event
+  stores : VariableNumber → List ℕ → Event
+
+abbrev pub happen : Table → Place → Event → State → Result
+happen t a (arrives busy room p) s = packet t a busy room p s
+happen t a (returns room f due r) s = functionResult t room f due r s
+happen t a (stores i b) s = boardStore t i b s
+
+-- "an answered, accepted packet reads that variable": taken off the definition's answer, no second reading of the packet
+abbrev pub tells : VariableNumber → Answer → Bool
+tells v (say c p) = false
+tells v (tell c is) = some (isSame v) is
+tells v (show c front k) = false
+tells v (call f i) = false
+
+abbrev pub readBy : VariableNumber → Line → Check → Bool
+readBy v l (Fail e) = false
+readBy v l Pass = tells v (l .answer)
+
+abbrev pub readsIn : Layout → (groups : List ℕ) → (busy : ℕ) → (message : List ℕ) → VariableNumber → Bool
+readsIn l gs busy m v = readBy v (asked l gs m) (judge l gs busy m)
+
+abbrev pub reads : Table → Place → VariableNumber → Event → State → Bool
+reads t a v (arrives busy room p) s =
+    first (boardTests (usable t s) a room) (λ r. false)
+    (first (packetTests a p) (λ r. false)
+    (isOwn a (destination p) && readsIn (layout t) (s .groups) busy (message p) v))
+reads t a v (returns room f due r) s = false
+reads t a v (stores i b) s = false
+
+-- the answer's bytes
+abbrev pub answerOf : Ending → List ℕ
+answerOf (reply r) = r
+answerOf silence = []
+answerOf (run f i due) = []
+answerOf (Ending.refused n) = []
+
+-- demand 3 for one event, of which rd says whether it reads v
+pub record Apart (v : VariableNumber) (r₁ r₂ : Result) (rd : Bool) : Type 0 where
+  pub alike : Alike v (r₁ .state) (r₂ .state)
+  pub same : rd ≡ false → r₁ .ending ≡ r₂ .ending
+  pub told : rd ≡ true → (answerOf (r₁ .ending) ≡ answerOf (r₂ .ending)) ↔ (valueOf (r₁ .state) v ≡ valueOf (r₂ .state) v)
+
+-- a run of events: how each ends, the state after all, and that none of them reads v
+abbrev pub endings : Table → Place → List Event → State → List Ending
+endings t a [] s = []
+endings t a (e ∷ es) s = happen t a e s .ending ∷ endings t a es (happen t a e s .state)
+
+abbrev pub later : Table → Place → List Event → State → State
+later t a [] s = s
+later t a (e ∷ es) s = later t a es (happen t a e s .state)
+
+abbrev pub unread : Table → Place → VariableNumber → List Event → State → Bool
+unread t a v [] s = true
+unread t a v (e ∷ es) s = not (reads t a v e s) && unread t a v es (happen t a e s .state)
+
+-- the same as an entry sees it: flat stores, and the bytes of a reply buffer ----------------------------------------------
+pub data Call : Type 0 where
+  packetIn : (busy : ℕ) → (packet buffer : List ℕ) → Call
+  resultIn : FunctionNumber → (due : Bool) → Ran → (buffer : List ℕ) → Call
+  storeIn : VariableNumber → List ℕ → Call
+
+-- calls are alike if these are: of a reply buffer only its length counts
+abbrev pub eventOf : Call → Event
+eventOf (packetIn busy p b) = arrives busy (length b) p
+eventOf (resultIn f due r b) = returns (length b) f due r
+eventOf (storeIn i b) = stores i b
+
+abbrev pub bufferOf : Call → List ℕ
+bufferOf (packetIn busy p b) = b
+bufferOf (resultIn f due r b) = b
+bufferOf (storeIn i b) = []
+
+abbrev pub leftBy : Table → Place → Call → Lent → Left
+leftBy t a c x = leaves (happen t a (eventOf c) (held (layout t) x)) (bufferOf c)
+
+-- what the caller sees: the outcome, and the answer's bytes in the buffer
+pub record Seen : Type 0 where
+  pub outcome : Outcome
+  pub answer : List ℕ
+
+abbrev pub answerIn : Outcome → List ℕ → List ℕ
+answerIn (Reply n) b = take n b
+answerIn Silence b = []
+answerIn (Run f n due) b = []
+answerIn (Refused r) b = []
+
+abbrev pub seenOf : Left → Seen
+seenOf x = record { outcome = x .outcome; answer = answerIn (x .outcome) (x .buffer) }
+
+-- each call starts from the stores that the last one left
+abbrev pub seenAll : Table → Place → List Call → Lent → List Seen
+seenAll t a [] x = []
+seenAll t a (c ∷ cs) x = seenOf (leftBy t a c x) ∷ seenAll t a cs (lentOf (leftBy t a c x .holds))
+
+abbrev pub lentAfter : Table → Place → List Call → Lent → Lent
+lentAfter t a [] x = x
+lentAfter t a (c ∷ cs) x = lentAfter t a cs (lentOf (leftBy t a c x .holds))
+
+-- "alike but for one variable's bytes"
+pub record LentAlike (l : Layout) (v : VariableNumber) (x₁ x₂ : Lent) : Type 0 where
+  pub others : (i : VariableNumber) → i .0 < length (l .sizes) → i ≢ v → bytesIn l (x₁ .values) i ≡ bytesIn l (x₂ .values) i
+  pub lengths : length (x₁ .values) ≡ length (x₂ .values)
+  pub curves : x₁ .curves ≡ x₂ .curves
+  pub groups : x₁ .groups ≡ x₂ .groups
