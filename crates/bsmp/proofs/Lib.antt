@@ -10,3 +10,9 @@ pub mod Apart
 pub mod Reading
 pub mod Stays
 pub mod Keeps
+pub mod Room
+pub mod Number
+pub mod Group
+pub mod Wrong
+pub mod Lent
+pub mod Input

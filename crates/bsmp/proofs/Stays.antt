@@ -16,7 +16,7 @@ use Rattle.bsmp.specs.Board.{rules, usable, usableVariables, usableCurve
 use Rattle.bsmp.specs.Message.{Change, nothing, edit, fill, regroup, writesVariable, writesGroup, Line, line, check, formTests, judge, asked, changed, edited, filled, after, stateAfter, carried, handled}
 use Rattle.bsmp.specs.Packet.{Place, Result, refuse, boardTests, packetTests, packet, Ran, resultTests, functionResult, storeTests, boardStore, isOwn, destination, message}
 use Rattle.bsmp.specs.Store.{Lent, held, lentOf}
-use Rattle.bsmp.specs.Apart.{Event, arrives, returns, stores, happen}
+use Rattle.bsmp.specs.Apart.{Event, arrives, returns, stores, happen, later}
 use Rattle.bsmp.specs.declared.VariableNumber.{VariableNumber}
 use Rattle.bsmp.specs.declared.CurveNumber.{CurveNumber}
 use Rattle.bsmp.specs.declared.Curve.{Curve}
@@ -222,6 +222,10 @@ stays t a (stores i b) s h =
     first-case (λ x. usable t (x .state) ≡ true) (storeTests (usable t s) (layout t) i b) (refuse s) _ (λ n. h)
     (λ c. after-usable t s (edit Replace (i ∷ []) (b ∷ [])) h
     (ap (_∷ []) (eqb-true _ _ (not-false _ (clear-at (storeTests (usable t s) (layout t) i b) c 2)))))
+
+pub later-usable : (t : Table) (a : Place) (es : List Event) (s : State) → usable t s ≡ true → usable t (later t a es s) ≡ true
+later-usable t a [] s h = h
+later-usable t a (e ∷ es) s h = later-usable t a es (happen t a e s .state) (stays t a e s h)
 
 -- a usable board's stores hold it: its pieces are found again where they were put
 pub held-again : (t : Table) (s : State) → usable t s ≡ true → held (layout t) (lentOf s) ≡ s

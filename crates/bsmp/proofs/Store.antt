@@ -34,7 +34,7 @@ lengths-cut [] (x ∷ l) h = absurd (omega (arith, h))
 lengths-cut (n ∷ ns) l h =
     ap₂ _∷_ (length-take-le n l (omega (arith, h))) (lengths-cut ns (drop n l) (simp length-drop (omega (arith, h))))
 
-sum-lengths : (ps : List (List ℕ)) → sum (map length ps) ≡ length (join ps)
+pub sum-lengths : (ps : List (List ℕ)) → sum (map length ps) ≡ length (join ps)
 unfolding sum
 sum-lengths [] = refl
 sum-lengths (p ∷ ps) = ap (length p +_) (sum-lengths ps) ∙ sym (length-append p (join ps))
