@@ -16,3 +16,4 @@ pub mod Group
 pub mod Wrong
 pub mod Lent
 pub mod Input
+pub mod Edges
