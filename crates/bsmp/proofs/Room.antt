@@ -9,7 +9,7 @@ use lib.ListN.{length, take, drop, getD, length-append, length-map}
 use borrow.Author.Tests.{leb-true, ltb-true, eqb-true, not-false}
 use Rattle.bsmp.specs.Base.{Test, first, all, every, sum, join, upFrom, within, byteAt, wordAt}
 use Rattle.bsmp.specs.Codes.{errorCode, commandOf}
-use Rattle.bsmp.specs.Board.{variable, group, curve, Table, Layout, layout, State, valueOf, blockOf, inGroup, sizesOf, sizeOf, variables, members, groupCount, noCurve, curveOf, blockPlace, functionOf}
+use Rattle.bsmp.specs.Board.{variable, group, curve, Table, Layout, layout, State, valueOf, blockOf, inGroup, sizesOf, sizeOf, variables, members, groupCount, blankCurve, blankFunction, curveOf, blockPlace, functionOf}
 use Rattle.bsmp.specs.Board.{usableVariable, variableRules, usableCurve, curveRules, rules, usable, usableVariables, usableCurves, usableFunctions, usableGroups}
 use Rattle.bsmp.specs.Message.{Answer, say, tell, show, call, variableList, groupList, curveRecord, curveList, functionList, Line, line, judge, asked, after, told, Said, replies, runs, spoken, stateAfter, said, carried, handled}
 use Rattle.bsmp.specs.Packet.{Place, Ending, reply, silence, run, Result, refuse, checksum, body, frame, ends, boardTests, packetTests, packet, Ran, gave, failed, badOutput, ranSays, resultTests, functionResult, storeTests, boardStore, isOwn, destination, message}
@@ -53,22 +53,22 @@ pub record Limits (t : Table) (s : State) : Type 0 where
   pub variables : length (t .variables) ≤ 64
   pub bytes : sum (sizesOf (t .variables)) ≤ 4096
   pub curves : length (t .curves) ≤ 8
-  pub block : (c : ℕ) → c < length (t .curves) → getD (t .curves) c noCurve .size ≤ 4096
+  pub block : (c : ℕ) → c < length (t .curves) → getD (t .curves) c blankCurve .size ≤ 4096
   pub functions : length (t .functions) ≤ 16
-  pub output : (f : ℕ) → f < length (t .functions) → getD (t .functions) f (record { input = 0; output = 0 }) .output ≤ 15
+  pub output : (f : ℕ) → f < length (t .functions) → getD (t .functions) f blankFunction .output ≤ 15
   pub groups : length (s .groups) ≤ 5
 
-block-limit : (cs : List Curve) (i : ℕ) → every usableCurve cs ≡ true → i < length cs → getD cs i noCurve .size ≤ 4096
+block-limit : (cs : List Curve) (i : ℕ) → every usableCurve cs ≡ true → i < length cs → getD cs i blankCurve .size ≤ 4096
 block-limit cs i h k =
-    let x : Curve = getD cs i noCurve in
-    let e : usableCurve x ≡ true = every-at usableCurve cs i noCurve h k in
+    let x : Curve = getD cs i blankCurve in
+    let e : usableCurve x ≡ true = every-at usableCurve cs i blankCurve h k in
     let w : within 1 4096 (x .size) ≡ true = and-true (leb (x .writable) 1) _ (and-true _ (within 1 65536 (x .blocks)) e .0) .1 in
     leb-true _ _ (and-true (leb 1 (x .size)) _ w .1)
 
 output-limit : (fs : List Function) (i : ℕ) → every (λ f. leb (f .input) 15 && leb (f .output) 15) fs ≡ true → i < length fs
-    → getD fs i (record { input = 0; output = 0 }) .output ≤ 15
+    → getD fs i blankFunction .output ≤ 15
 output-limit fs i h k =
-    let x : Function = getD fs i (record { input = 0; output = 0 }) in
+    let x : Function = getD fs i blankFunction in
     leb-true _ _ (and-true (leb (x .input) 15) (leb (x .output) 15) (every-at (λ f. leb (f .input) 15 && leb (f .output) 15) fs i _ h k) .1)
 
 pub limits : (t : Table) (s : State) → usable t s ≡ true → Limits t s

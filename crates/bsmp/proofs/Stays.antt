@@ -11,7 +11,7 @@ use lib.Seq.{set-getD, getD-append-add}
 use borrow.Author.Tests.{eq-eqb, eqb-true, leb-true, leb-false, ltb-true, ltb-false, not-false, le-leb, lt-ltb}
 use Rattle.bsmp.specs.Base.{Test, test, first, some, all, every, sum, join, cut, within, ascending, byteAt, wordAt, marksOf, upFrom}
 use Rattle.bsmp.specs.Codes.{commandOf}
-use Rattle.bsmp.specs.Board.{variable, curve, Table, Layout, layout, State, valueOf, blockOf, sizesOf, sizeOf, variables, isSame, members, groupBytes, setOf, noCurve, curveOf, blockSizes, blockPlace}
+use Rattle.bsmp.specs.Board.{variable, curve, Table, Layout, layout, State, valueOf, blockOf, sizesOf, sizeOf, variables, isSame, members, groupBytes, setOf, blankCurve, curveOf, blockSizes, blockPlace}
 use Rattle.bsmp.specs.Board.{rules, usable, usableVariables, usableCurves, usableFunctions, usableGroups}
 use Rattle.bsmp.specs.Message.{Change, nothing, edit, fill, regroup, writesVariable, writesGroup, Line, line, check, formTests, judge, asked, changed, edited, filled, after, stateAfter, carried, handled}
 use Rattle.bsmp.specs.Packet.{Place, Result, refuse, boardTests, packetTests, packet, Ran, resultTests, functionResult, storeTests, boardStore, isOwn, destination, message}
@@ -106,8 +106,8 @@ after-usable t s (regroup gs) h k = regrouped t s gs h k
 
 -- each command's change fits where its tests pass ---------------------------------------------------------------------------
 -- the size of a curve's block
-pub block-size : (cs : List Curve) (c k : ℕ) → c < length cs → k < getD cs c noCurve .blocks
-    → getD (blockSizes cs) (sum (map (λ x. x .blocks) (take c cs)) + k) 0 ≡ getD cs c noCurve .size
+pub block-size : (cs : List Curve) (c k : ℕ) → c < length cs → k < getD cs c blankCurve .blocks
+    → getD (blockSizes cs) (sum (map (λ x. x .blocks) (take c cs)) + k) 0 ≡ getD cs c blankCurve .size
 unfolding sum
 block-size [] c k h l = absurd (omega (arith, h))
 block-size (x ∷ cs) zero k h l =

@@ -35,6 +35,17 @@ pub record Table : Type 0 where
   pub curves : List Curve
   pub functions : List Function
 
+-- where no record is
+abbrev pub blankCurve : Curve
+blankCurve = record { writable = 0; size = 0; blocks = 0 }
+
+abbrev pub blankFunction : Function
+blankFunction = record { input = 0; output = 0 }
+
+-- a type is 0, read-only, or 1, writable
+abbrev pub isType : ℕ → Bool
+isType w = leb w 1
+
 abbrev pub isWritable : ℕ → Bool
 isWritable w = eqb w 1
 
@@ -71,7 +82,6 @@ valueOf s i = getD (s .values) (i .0) []
 abbrev pub blockOf : State → ℕ → List ℕ
 blockOf s k = getD (s .blocks) k []
 
--- variables ---------------------------------------------------------------------------------------------------------------
 abbrev pub sizeOf : Layout → VariableNumber → ℕ
 sizeOf l i = getD (l .sizes) (i .0) 0
 
@@ -84,7 +94,6 @@ variables l = map variable (upFrom 0 (length (l .sizes)))
 abbrev pub isSame : VariableNumber → VariableNumber → Bool
 isSame i j = eqb (i .0) (j .0)
 
--- groups ------------------------------------------------------------------------------------------------------------------
 -- "Groups 0, 1 and 2 always exist: all variables, the read-only ones, the writable ones. Groups 3 to 7 are made by message"
 unfoldable pub inGroup : (writable : ℕ) → List ℕ → GroupNumber → VariableNumber → Bool
 inGroup w gs g i =
@@ -120,11 +129,8 @@ unfoldable pub setOf : Layout → List VariableNumber → ℕ
 setOf l is = marksOf (map (λ i. some (isSame i) is) (variables l))
 
 -- curves: "block after block" ---------------------------------------------------------------------------------------------
-abbrev pub noCurve : Curve
-noCurve = record { writable = 0; size = 0; blocks = 0 }
-
 abbrev pub curveOf : Layout → CurveNumber → Curve
-curveOf l c = getD (l .curves) (c .0) noCurve
+curveOf l c = getD (l .curves) (c .0) blankCurve
 
 -- the size of each block, curve after curve
 abbrev pub blockSizes : List Curve → List ℕ
@@ -134,15 +140,10 @@ blockSizes cs = join (map (λ c. replicate (c .blocks) (c .size)) cs)
 abbrev pub blockPlace : Layout → CurveNumber → ℕ → ℕ
 blockPlace l c k = sum (map (λ x. x .blocks) (take (c .0) (l .curves))) + k
 
--- functions ---------------------------------------------------------------------------------------------------------------
 abbrev pub functionOf : Layout → FunctionNumber → Function
-functionOf l f = getD (l .functions) (f .0) (record { input = 0; output = 0 })
+functionOf l f = getD (l .functions) (f .0) blankFunction
 
 -- the boards that 01 takes: refusal 1 is given exactly if a rule is broken ------------------------------------------------
--- a type is 0 or 1
-abbrev pub isType : ℕ → Bool
-isType w = leb w 1
-
 -- "a number has size 1, 2, 4 or 8"
 abbrev pub fitsKind : ℕ → Kind → Bool
 fitsKind n Plain = true

@@ -77,7 +77,6 @@ isBusy = test 9 Busy
 abbrev pub isFull : Bool → Test WireError
 isFull = test 10 Full
 
--- the payload's parts -----------------------------------------------------------------------------------------------------
 module _ (p : List ℕ) where
   abbrev pub size≠ : ℕ → Bool
   size≠ n = not (eqb (length p) n)
@@ -97,7 +96,7 @@ module _ (p : List ℕ) where
   abbrev pub functionAt : ℕ → FunctionNumber
   functionAt i = function (byteAt p i)
 
--- what doesn't exist ------------------------------------------------------------------------------------------------------
+-- "any variable, group, curve or function named that doesn't exist"
 abbrev pub noVariable : Layout → VariableNumber → Bool
 noVariable l i = not (ltb (i .0) (length (l .sizes)))
 
@@ -114,24 +113,23 @@ noFunction l f = not (ltb (f .0) (length (l .functions)))
 abbrev pub noPayload : List ℕ → List (Test WireError)
 noPayload p = badFront (size≠ p 0) ∷ []
 
-unfoldable pub writesVariable : Layout → List ℕ → ℕ → ℕ → List (Test WireError)
-writesVariable l p n busy =
+unfoldable pub writesVariable : Layout → List ℕ → ℕ → (busy : Bool) → List (Test WireError)
+writesVariable l p n b =
     badRest (size≠ p (n + sizeOf l (variableAt p 0)))
     ∷ readOnly (not (marked (l .writable) (variableAt p 0)))
-    ∷ isBusy (marked busy (variableAt p 0))
+    ∷ isBusy b
     ∷ []
 
-unfoldable pub writesGroup : Layout → List ℕ → List ℕ → ℕ → ℕ → List (Test WireError)
-writesGroup l gs p n busy =
+unfoldable pub writesGroup : Layout → List ℕ → List ℕ → ℕ → (busy : Bool) → List (Test WireError)
+writesGroup l gs p n b =
     badRest (size≠ p (n + groupBytes l gs (groupAt p 0)))
     ∷ readOnly (not (writableGroup l gs (groupAt p 0)))
-    ∷ isBusy (groupHas busy l gs (groupAt p 0))
+    ∷ isBusy b
     ∷ []
 
 abbrev pub blockMissing : Layout → List ℕ → Bool
 blockMissing l p = not (ltb (wordAt p 1) (curveOf l (curveAt p 0) .blocks))
 
--- lists on the wire -------------------------------------------------------------------------------------------------------
 -- "top bit 1 if writable, low seven the size"
 abbrev pub listed : Bool → ℕ → ℕ
 listed writable n = cond writable 128 0 + n
@@ -163,9 +161,26 @@ pub record Line : Type 0 where
 abbrev pub done : Answer
 done = say 0xE0 []
 
+-- a command that changes nothing; one without payload too; one that answers E0
+abbrev pub looks : (ℕ → List (Test WireError)) → Answer → Line
+looks ts a = record { tests = ts; change = nothing; answer = a }
+
+abbrev pub asks : List ℕ → Answer → Line
+asks p a = looks (λ busy. noPayload p) a
+
+abbrev pub does : (ℕ → List (Test WireError)) → Change → Line
+does ts c = record { tests = ts; change = c; answer = done }
+
 module _ (l : Layout) (gs : List ℕ) (p : List ℕ) where
   abbrev pub groupMembers : List VariableNumber
   groupMembers = members l gs (groupAt p 0)
+
+  -- whether the variable named first, or a member of the group, is busy
+  abbrev pub busyVariable : ℕ → Bool
+  busyVariable busy = marked busy (variableAt p 0)
+
+  abbrev pub busyGroup : ℕ → Bool
+  busyGroup busy = groupHas busy l gs (groupAt p 0)
 
   -- the bytes from n on: all for the one variable, or cut up for the group's members
   abbrev pub editVariable : Operation → ℕ → Change
@@ -174,81 +189,50 @@ module _ (l : Layout) (gs : List ℕ) (p : List ℕ) where
   abbrev pub editGroup : Operation → ℕ → Change
   editGroup op n = edit op groupMembers (cut (map (sizeOf l) groupMembers) (drop n p))
 
-  -- a request without payload that changes nothing
-  abbrev pub asks : Answer → Line
-  asks a = record { tests = λ busy. noPayload p; change = nothing; answer = a }
-
   unfoldable pub line : Command → Line
-  line Version = asks (say 0x01 (2 ∷ 20 ∷ 0 ∷ []))
-  line ListVariables = asks (say 0x03 (variableList l))
-  line ListGroups = asks (say 0x05 (groupList l gs))
-  line ShowGroup = record {
-    tests = λ busy. badFront (size≠ p 1) ∷ missing (noGroup gs (groupAt p 0)) ∷ [];
-    change = nothing;
-    answer = say 0x07 (map (λ i. i .0) groupMembers);
-  }
-  line ListCurves = asks (say 0x09 (curveList l))
-  line ListFunctions = asks (say 0x0D (functionList l))
-  line ReadVariable = record {
-    tests = λ busy. badFront (size≠ p 1) ∷ missing (noVariable l (variableAt p 0)) ∷ [];
-    change = nothing;
-    answer = tell 0x11 (variableAt p 0 ∷ []);
-  }
-  line ReadGroup = record {
-    tests = λ busy. badFront (size≠ p 1) ∷ missing (noGroup gs (groupAt p 0)) ∷ [];
-    change = nothing;
-    answer = tell 0x13 groupMembers;
-  }
-  line WriteVariable = record {
-    tests = λ busy. badFront (size< p 1) ∷ missing (noVariable l (variableAt p 0)) ∷ writesVariable l p 1 busy;
-    change = editVariable Replace 1;
-    answer = done;
-  }
-  line WriteGroup = record {
-    tests = λ busy. badFront (size< p 1) ∷ missing (noGroup gs (groupAt p 0)) ∷ writesGroup l gs p 1 busy;
-    change = editGroup Replace 1;
-    answer = done;
-  }
-  line MaskVariable = record {
-    tests = λ busy. badFront (size< p 2) ∷ missing (noVariable l (variableAt p 0)) ∷ badOperation (noOperation (byteAt p 1)) ∷ writesVariable l p 2 busy;
-    change = editVariable (operationOf (byteAt p 1)) 2;
-    answer = done;
-  }
-  line MaskGroup = record {
-    tests = λ busy. badFront (size< p 2) ∷ missing (noGroup gs (groupAt p 0)) ∷ badOperation (noOperation (byteAt p 1)) ∷ writesGroup l gs p 2 busy;
-    change = editGroup (operationOf (byteAt p 1)) 2;
-    answer = done;
-  }
+  line Version = asks p (say 0x01 (2 ∷ 20 ∷ 0 ∷ []))
+  line ListVariables = asks p (say 0x03 (variableList l))
+  line ListGroups = asks p (say 0x05 (groupList l gs))
+  line ShowGroup = looks (λ busy. badFront (size≠ p 1) ∷ missing (noGroup gs (groupAt p 0)) ∷ []) (say 0x07 (map (λ i. i .0) groupMembers))
+  line ListCurves = asks p (say 0x09 (curveList l))
+  line ListFunctions = asks p (say 0x0D (functionList l))
+  line ReadVariable = looks (λ busy. badFront (size≠ p 1) ∷ missing (noVariable l (variableAt p 0)) ∷ []) (tell 0x11 (variableAt p 0 ∷ []))
+  line ReadGroup = looks (λ busy. badFront (size≠ p 1) ∷ missing (noGroup gs (groupAt p 0)) ∷ []) (tell 0x13 groupMembers)
+  line WriteVariable =
+      does (λ busy. badFront (size< p 1) ∷ missing (noVariable l (variableAt p 0)) ∷ writesVariable l p 1 (busyVariable busy)) (editVariable Replace 1)
+  line WriteGroup = does (λ busy. badFront (size< p 1) ∷ missing (noGroup gs (groupAt p 0)) ∷ writesGroup l gs p 1 (busyGroup busy)) (editGroup Replace 1)
+  line MaskVariable =
+      does
+      (λ busy. badFront (size< p 2) ∷ missing (noVariable l (variableAt p 0)) ∷ badOperation (noOperation (byteAt p 1)) ∷ writesVariable l p 2 (busyVariable busy))
+      (editVariable (operationOf (byteAt p 1)) 2)
+  line MaskGroup =
+      does (λ busy. badFront (size< p 2) ∷ missing (noGroup gs (groupAt p 0)) ∷ badOperation (noOperation (byteAt p 1)) ∷ writesGroup l gs p 2 (busyGroup busy))
+      (editGroup (operationOf (byteAt p 1)) 2)
   line WriteRead = record {
-    tests = λ busy. badFront (size< p 2) ∷ missing (noVariable l (variableAt p 0) || noVariable l (variableAt p 1)) ∷ writesVariable l p 2 busy;
+    tests = λ busy. badFront (size< p 2) ∷ missing (noVariable l (variableAt p 0) || noVariable l (variableAt p 1)) ∷ writesVariable l p 2 (busyVariable busy);
     change = editVariable Replace 2;
     answer = tell 0x11 (variableAt p 1 ∷ []);
   }
-  line MakeGroup = record {
-    tests = λ busy. badFront (size< p 1 || ltb (length (l .sizes)) (length p)) ∷ missing (some (λ i. noVariable l (variable i)) p)
-        ∷ badPlace (not (ascending p)) ∷ isFull (leb 5 (length gs)) ∷ [];
-    change = regroup (gs ++ setOf l (map variable p) ∷ []);
-    answer = done;
-  }
-  line RemoveGroups = record { tests = λ busy. noPayload p; change = regroup []; answer = done }
-  line ReadBlock = record {
-    tests = λ busy. badFront (size≠ p 3) ∷ missing (noCurve l (curveAt p 0)) ∷ badPlace (blockMissing l p) ∷ [];
-    change = nothing;
-    answer = show 0x41 p (blockPlace l (curveAt p 0) (wordAt p 1));
-  }
-  line WriteBlock = record {
-    tests = λ busy. badFront (size< p 3) ∷ missing (noCurve l (curveAt p 0)) ∷ badPlace (blockMissing l p)
-        ∷ badRest (not (within 1 (curveOf l (curveAt p 0) .size) (length p - 3)))
-        ∷ readOnly (not (isWritable (curveOf l (curveAt p 0) .writable))) ∷ [];
-    change = fill (blockPlace l (curveAt p 0) (wordAt p 1)) (drop 3 p);
-    answer = done;
-  }
-  line RunFunction = record {
-    tests = λ busy. badFront (size< p 1) ∷ missing (noFunction l (functionAt p 0)) ∷ badRest (size≠ p (1 + functionOf l (functionAt p 0) .input)) ∷ [];
-    change = nothing;
-    answer = call (functionAt p 0) (drop 1 p);
-  }
-  line Unknown = record { tests = λ busy. badCommand true ∷ []; change = nothing; answer = done }
+  line MakeGroup =
+      does
+      (λ busy. badFront (size< p 1 || ltb (length (l .sizes)) (length p)) ∷ missing (some (λ i. noVariable l (variable i)) p)
+      ∷ badPlace (not (ascending p)) ∷ isFull (leb 5 (length gs)) ∷ [])
+      (regroup (gs ++ setOf l (map variable p) ∷ []))
+  line RemoveGroups = does (λ busy. noPayload p) (regroup [])
+  line ReadBlock =
+      looks (λ busy. badFront (size≠ p 3) ∷ missing (noCurve l (curveAt p 0)) ∷ badPlace (blockMissing l p) ∷ [])
+      (show 0x41 p (blockPlace l (curveAt p 0) (wordAt p 1)))
+  line WriteBlock =
+      does
+      (λ busy. badFront (size< p 3) ∷ missing (noCurve l (curveAt p 0)) ∷ badPlace (blockMissing l p)
+      ∷ badRest (not (within 1 (curveOf l (curveAt p 0) .size) (length p - 3)))
+      ∷ readOnly (not (isWritable (curveOf l (curveAt p 0) .writable))) ∷ [])
+      (fill (blockPlace l (curveAt p 0) (wordAt p 1)) (drop 3 p))
+  line RunFunction =
+      looks
+      (λ busy. badFront (size< p 1) ∷ missing (noFunction l (functionAt p 0)) ∷ badRest (size≠ p (1 + functionOf l (functionAt p 0) .input)) ∷ [])
+      (call (functionAt p 0) (drop 1 p))
+  line Unknown = looks (λ busy. badCommand true ∷ []) done
 
 -- judged without looking at any value ------------------------------------------------------------------------------------
 -- the first error of a command's tests
@@ -266,7 +250,6 @@ judge l gs busy m = first (formTests m) Fail (check l gs busy (drop 3 m) (comman
 abbrev pub asked : Layout → List ℕ → List ℕ → Line
 asked l gs m = line l gs (drop 3 m) (commandOf (byteAt m 0))
 
--- carried out -------------------------------------------------------------------------------------------------------------
 -- an operation on a byte and its mask
 unfoldable pub operated : Operation → ℕ → ℕ → ℕ
 operated Replace old m = m
