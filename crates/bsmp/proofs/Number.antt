@@ -11,7 +11,7 @@ use lib.IntN.{ℤ, pos, negsuc}
 use lib.ListN.{length, getD, length-reverse}
 use borrow.Author.Tests.{le-leb, lt-leb, ltb-true, leb-true, leb-false, lt-ltb, eqb-true, not-false}
 use Rattle.bsmp.specs.Base.{every, all, first, within}
-use Rattle.bsmp.specs.Board.{usableVariable, variableRules, usableVariables}
+use Rattle.bsmp.specs.Board.{isType, usableSize, usableVariable, variableRules, usableVariables}
 use Rattle.bsmp.specs.Number.{little, littleBytes, turned, meant, inRange, unsignedOf, numberOf, bytesOf, recordOf, kindAt, isBig, readingTests, rangeTests, Reading, is, reading, Written, bytes, writing}
 use Rattle.bsmp.specs.declared.VariableNumber.{VariableNumber}
 use Rattle.bsmp.specs.declared.Variable.{Variable}
@@ -156,7 +156,7 @@ unfolding usableVariables
 some-size vs i h k =
     let v : Variable = recordOf vs i in
     let e : usableVariable v ≡ true = every-at usableVariable vs (i .0) _ (all-at (variableRules vs) h 1) k in
-    let w : within 1 127 (v .size) ≡ true = and-true (leb (v .writable) 1) _ (and-true (leb (v .writable) 1 && within 1 127 (v .size)) _ e .0) .1 in
+    let w : usableSize (v .size) ≡ true = and-true (isType (v .writable)) _ (and-true (isType (v .writable) && usableSize (v .size)) _ e .0) .1 in
     leb-true _ _ (and-true (leb 1 (v .size)) _ w .0)
 
 pub reading-size : (vs : List Variable) (i : VariableNumber) (sg : Bool) (n : ℕ) → clear (readingTests vs i sg n) → 1 ≤ n

@@ -150,10 +150,14 @@ fitsKind n Plain = true
 fitsKind n (Number s b) = some (eqb n) (1 ∷ 2 ∷ 4 ∷ 8 ∷ [])
 fitsKind n Unknown = false
 
-abbrev pub usableVariable : Variable → Bool
-usableVariable v = isType (v .writable) && within 1 127 (v .size) && fitsKind (v .size) (kindOf (v .kind))
+-- "each 1 to 127 bytes"
+abbrev pub usableSize : ℕ → Bool
+usableSize n = within 1 127 n
 
--- "1 to 64, each 1 to 127 bytes, together at most 4,096"
+abbrev pub usableVariable : Variable → Bool
+usableVariable v = isType (v .writable) && usableSize (v .size) && fitsKind (v .size) (kindOf (v .kind))
+
+-- "1 to 64, .., together at most 4,096"
 abbrev pub variableRules : List Variable → List Bool
 variableRules vs = within 1 64 (length vs) ∷ every usableVariable vs ∷ leb (sum (sizesOf vs)) 4096 ∷ []
 
