@@ -1,0 +1,4 @@
+pub mod Order
+pub mod Little
+pub mod Sizes
+pub mod Signed

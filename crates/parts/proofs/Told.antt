@@ -1,0 +1,33 @@
+-- Tests as code has them at a return, for the chain of a command. Assumes nothing.
+use mathlib.Core.Path.{_≡_, refl, sym, _∙_}
+use mathlib.Core.Bool.{Bool, true, false, not, _||_}
+use Prim.Native.Nat.{ℕ}
+use borrow.Author.Tests.{lt-ltb, le-ltb, eq-eqb, ne-eqb, le-leb, lt-leb}
+use Rattle.bsmp.specs.Board.{marked}
+use Rattle.bsmp.specs.Codes.{noOperation}
+use Rattle.bsmp.specs.declared.VariableNumber.{VariableNumber}
+use Rattle.bsmp.proofs.Chain.{first-next, first-stop, first-end}
+
+pub not-on : (x : Bool) → x ≡ false → not x ≡ true
+not-on x h = rw h
+
+pub not-off : (x : Bool) → x ≡ true → not x ≡ false
+not-off x h = rw h
+
+pub or-left : (x y : Bool) → x ≡ true → (x || y) ≡ true
+or-left x y h = rw h
+
+pub or-right : (x y : Bool) → x ≡ false → y ≡ true → (x || y) ≡ true
+or-right x y h k = rw (h, k)
+
+pub or-none : (x y : Bool) → x ≡ false → y ≡ false → (x || y) ≡ false
+or-none x y h k = rw (h, k)
+
+-- what a callee answered, and the test of it
+pub marked-told : (m : ℕ) (i : VariableNumber) (w b : Bool) → w ≡ marked m i → w ≡ b → marked m i ≡ b
+marked-told m i w b h k = sym h ∙ k
+
+pub operation-told : (x : ℕ) (w b : Bool) → w ≡ noOperation x → w ≡ b → noOperation x ≡ b
+operation-told x w b h k = sym h ∙ k
+
+pub ruleset steps = (first-next, first-stop, first-end, lt-ltb, le-ltb, eq-eqb, ne-eqb, le-leb, lt-leb, not-on, not-off)

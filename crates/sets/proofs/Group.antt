@@ -1,0 +1,106 @@
+-- A group's set and its members, as the code finds them and as the board's definition has them. Assumes nothing.
+use mathlib.Core.Path.{_≡_, refl, sym, ap, ap₂, _∙_}
+use mathlib.Core.Bool.{Bool, true, false, not, cond}
+use mathlib.Core.List.{List, _∷_, map}
+use Prim.Native.Nat.{ℕ, zero, suc, _+_, _-_, _^_, _≤_, _<_}
+use native.Mathlib.Omega.{arith}
+use lib.Dec.{eqb}
+use borrow.Author.Tests.{eq-eqb, ne-eqb}
+use lib.ListN.{length, getD}
+use Rattle.bsmp.specs.Base.{upFrom, every, some, only, cut}
+use Rattle.bsmp.specs.Board.{Layout, variable, sizeOf, marked, inGroup, members, groupBytes, groupHas, writableGroup}
+use Rattle.bsmp.specs.Message.{edited, told}
+use Rattle.bsmp.specs.declared.Operation.{Operation}
+use Rattle.bsmp.specs.declared.VariableNumber.{VariableNumber}
+use Rattle.bsmp.specs.declared.GroupNumber.{GroupNumber}
+use Rattle.sets.specs.Members.{membersBelow, membersOf, sizeAt, setBytes, groupSet}
+use Rattle.sets.specs.Promises.{GroupSet, Surveyed, Placed}
+use Rattle.sets.specs.declared.Survey.{Survey}
+use Rattle.sets.proofs.Marks.{has-not, has-none}
+
+-- tests that agree on all variables below a number choose the same of them
+only-same : (f h : VariableNumber → Bool) (i n : ℕ) → ((k : ℕ) → k < i + n → f (variable k) ≡ h (variable k))
+    → only f (map variable (upFrom i n)) ≡ only h (map variable (upFrom i n))
+only-same f h i zero e = refl
+only-same f h i (suc n) e =
+    ap₂ (λ (b : Bool) (x : List VariableNumber). cond b (variable i ∷ x) x) (e i (omega arith)) (only-same f h (suc i) n (λ k l. e k (omega (arith, l))))
+
+group-is : (w : ℕ) (gs : List ℕ) (g : GroupNumber) (x : ℕ) → x ≡ groupSet w gs g → ((k : ℕ) → k < 64 → inGroup w gs g (variable k) ≡ marked x (variable k)) → GroupSet w gs g x
+unfolding members membersBelow
+group-is w gs g x e h = record {
+  is = e;
+  members-are = λ l q few. ap (λ (y : ℕ). only (inGroup y gs g) (map variable (upFrom 0 (length (l .sizes))))) q
+      ∙ only-same (inGroup w gs g) (marked x) 0 (length (l .sizes)) (λ k i. h k (omega (arith, i)));
+}
+
+-- the set, as the code finds it
+module _ (w : ℕ) (gs : List ℕ) (g : GroupNumber) where
+  pub set-all : g .0 ≡ 0 → GroupSet w gs g (2 ^ 64 - 1)
+  unfolding inGroup groupSet
+  set-all e = group-is w gs g (2 ^ 64 - 1) (rw e) (λ k h. rw e (sym (has-not 64 0 k (omega arith) h ∙ ap not (has-none k))))
+
+  pub set-read-only : g .0 ≡ 1 → w < 2 ^ 64 → GroupSet w gs g (2 ^ 64 - 1 - w)
+  unfolding inGroup groupSet
+  set-read-only e l = group-is w gs g (2 ^ 64 - 1 - w) (rw e) (λ k h. rw e (sym (has-not 64 w k l h)))
+
+  pub set-writable : g .0 ≡ 2 → GroupSet w gs g w
+  unfolding inGroup groupSet
+  set-writable e = group-is w gs g w (rw e) (λ k h. rw e)
+
+  pub set-made : (g .0 ≡ 0 → ⊥) → (g .0 ≡ 1 → ⊥) → (g .0 ≡ 2 → ⊥) → GroupSet w gs g (getD gs (g .0 - 3) 0)
+  unfolding inGroup groupSet
+  set-made z o t =
+      let a : eqb (g .0) 0 ≡ false = ne-eqb (g .0) 0 z in
+      let b : eqb (g .0) 1 ≡ false = ne-eqb (g .0) 1 o in
+      let c : eqb (g .0) 2 ≡ false = ne-eqb (g .0) 2 t in
+      group-is w gs g (getD gs (g .0 - 3) 0) (rw (a, b, c)) (λ k h. rw (a, b, c))
+
+-- what callers have of a group's set, on a board with these sizes and writable variables
+module _ (l : Layout) (gs : List ℕ) (g : GroupNumber) (ns : List ℕ) (w set : ℕ) (e : l .sizes ≡ ns) (f : l .writable ≡ w) (few : length ns ≤ 64) (h : GroupSet w gs g set) where
+  pub group-members : members l gs g ≡ membersOf set ns
+  group-members = h .members-are l f (rw e few) ∙ ap (membersOf set) e
+
+  group-fits : setBytes set ns ≡ groupBytes l gs g
+  unfolding setBytes groupBytes
+  group-fits = rw (group-members, e)
+
+  -- of a survey
+  module _ (b : ℕ) (s : Survey) (q : Surveyed ns set w b s) where
+    pub group-bytes : s .bytes ≡ groupBytes l gs g
+    group-bytes = q .bytes ∙ group-fits
+
+    pub group-count : s .count ≡ length (members l gs g)
+    group-count = q .count ∙ ap length (sym group-members)
+
+    pub group-has : s .marked ≡ groupHas b l gs g
+    unfolding groupHas
+    group-has = q .marked ∙ ap (some (marked b)) (sym group-members)
+
+    pub group-writes : (r : Bool) → r ≡ cond (eqb (g .0) 1) false (cond (eqb (g .0) 2) true (s .writable)) → r ≡ writableGroup l gs g
+    unfolding writableGroup
+    group-writes r o =
+        let a : s .writable ≡ every (marked (l .writable)) (members l gs g) =
+        q .writable ∙ ap₂ (λ (x : ℕ) (is : List VariableNumber). every (marked x) is) (sym f) (sym group-members) in
+        o ∙ ap (λ (x : Bool). cond (eqb (g .0) 1) false (cond (eqb (g .0) 2) true x)) a
+
+    -- a payload's length against the bytes of all members
+    pub group-same : (k n : ℕ) → k ≡ n + s .bytes → eqb k (n + groupBytes l gs g) ≡ true
+    group-same k n d = rw (← group-bytes) (eq-eqb k (n + s .bytes) d)
+
+    pub group-other : (k n : ℕ) → (k ≡ n + s .bytes → ⊥) → eqb k (n + groupBytes l gs g) ≡ false
+    group-other k n d = rw (← group-bytes) (ne-eqb k (n + s .bytes) d)
+
+  -- a payload that is long enough for a change, and what was changed, read or listed
+  pub group-room : (k n : ℕ) → k ≡ n + groupBytes l gs g → n + setBytes set ns ≤ k
+  group-room k n d = omega (arith, group-fits)
+
+  pub group-edit : (op : Operation) (p : List ℕ) (vs x : List (List ℕ)) → x ≡ edited op (membersOf set ns) (cut (map (sizeAt ns) (membersOf set ns)) p) vs
+      → x ≡ edited op (members l gs g) (cut (map (sizeOf l) (members l gs g)) p) vs
+  group-edit op p vs x q = rw (group-members, e) q
+
+  module _ (most : ℕ) (r : List ℕ) (at n : ℕ) (r′ : List ℕ) where
+    pub group-read : (vs : List (List ℕ)) → Placed (told vs (membersOf set ns)) most r at n r′ → Placed (told vs (members l gs g)) most r at n r′
+    group-read vs p = rw group-members p
+
+    pub group-list : (c : ℕ) → c ≡ length ns → Placed (map (λ i. i .0) (membersBelow set c)) most r at n r′ → Placed (map (λ i. i .0) (members l gs g)) most r at n r′
+    group-list c o p = rw (group-members, ← o) p

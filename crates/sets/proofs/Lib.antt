@@ -1,0 +1,5 @@
+pub mod Marks
+pub mod Ids
+pub mod Members
+pub mod Walk
+pub mod Group

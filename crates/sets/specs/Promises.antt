@@ -1,0 +1,61 @@
+-- What the walks over a set ask for, and what they promise. Assumes nothing.
+use mathlib.Core.Path.{_≡_}
+use mathlib.Core.Bool.{Bool, cond, _&&_, _||_}
+use mathlib.Core.List.{List, map}
+use Prim.Native.Nat.{ℕ, _+_, _≤_, _<_}
+use lib.ListN.{length, getD}
+use Rattle.bsmp.specs.Base.{sum, every, some}
+use Rattle.bsmp.specs.Board.{Layout, variable, marked, members, setOf}
+use Rattle.bsmp.specs.declared.VariableNumber.{VariableNumber}
+use Rattle.bsmp.specs.declared.GroupNumber.{GroupNumber}
+use Rattle.lists.specs.Put.{put}
+use Rattle.sets.specs.Members.{membersOf, setBytes, groupSet}
+use Rattle.sets.specs.declared.Survey.{Survey}
+
+-- few variables, and a store of exactly the length that their sizes add up to
+pub record Sound (sizes store : List ℕ) : Type 0 where
+  pub few : length sizes ≤ 64
+  pub exact : sum sizes ≡ length store
+  pub small : length store ≤ 4096
+
+-- every number of the list is below n
+pub record Below (n : ℕ) (list : List ℕ) : Type 0 where
+  pub below : (k : ℕ) → k < length list → getD list k 0 < n
+
+-- the set of the variables that these IDs name, on every board that has them
+pub record Named (ids : List ℕ) (set : ℕ) : Type 0 where
+  pub set-is : (l : Layout) → Below (length (l .sizes)) ids → set ≡ setOf l (map variable ids)
+
+-- a group's set: its members are the group's, on every board with these writable variables
+pub record GroupSet (writable : ℕ) (groups : List ℕ) (g : GroupNumber) (set : ℕ) : Type 0 where
+  pub is : set ≡ groupSet writable groups g
+  pub members-are : (l : Layout) → l .writable ≡ writable → length (l .sizes) ≤ 64 → members l groups g ≡ membersOf set (l .sizes)
+
+-- what a survey of a set finds
+pub record Surveyed (sizes : List ℕ) (set w marks : ℕ) (s : Survey) : Type 0 where
+  pub bytes : s .bytes ≡ setBytes set sizes
+  pub count : s .count ≡ length (membersOf set sizes)
+  pub writable : s .writable ≡ every (marked w) (membersOf set sizes)
+  pub marked : s .marked ≡ some (marked marks) (membersOf set sizes)
+  pub small : s .bytes ≤ 16320
+  pub few : s .count ≤ 64
+
+-- a survey with one more variable, of n bytes
+unfoldable pub added : (writable marks : ℕ) → Survey → VariableNumber → (n : ℕ) → Survey
+added w b s i n = record {
+  bytes = s .bytes + n;
+  count = s .count + 1;
+  writable = s .writable && marked w i;
+  marked = s .marked || marked b i;
+}
+
+-- n bytes, at most so many, were put into the reply from a place on, and no others
+pub record Placed (payload : List ℕ) (most : ℕ) (reply : List ℕ) (at n : ℕ) (reply′ : List ℕ) : Type 0 where
+  pub count : n ≡ length payload
+  pub room : n ≤ most
+  pub bytes : reply′ ≡ put reply at payload
+
+-- a turn of a walk: the bytes v are put at a place if the variable is a member, and k more bytes are passed
+pub record Turned (member : Bool) (k : ℕ) (v list : List ℕ) (place from next : ℕ) (list′ : List ℕ) : Type 0 where
+  pub passed : next ≡ from + cond member k 0
+  pub bytes : list′ ≡ cond member (put list place v) list

@@ -1,0 +1,230 @@
+// Sets of variables as marks, walked in order of number: what they add up to, their values read and changed, their numbers.
+use bsmp::GroupNumber;
+use bsmp::Operation;
+use bsmp::VariableNumber;
+ghost use mathlib.Core.Path.{_≡_};
+ghost use mathlib.Core.Bool.{true, false, cond};
+ghost use mathlib.Core.List.{[], _∷_, map};
+ghost use Prim.Native.Nat.{_+_, _≤_, _<_};
+ghost use lib.Dec.{eqb};
+ghost use lib.ListN.{length, drop};
+ghost use Rattle.bsmp.specs.Base.{cut};
+ghost use Rattle.bsmp.specs.Board.{marked};
+ghost use Rattle.bsmp.specs.Message.{changed, edited, told};
+ghost use Rattle.lists.specs.Put.{part};
+ghost use Rattle.sets.specs.Members.{membersOf, membersBelow, sizeAt, setBytes};
+ghost use Rattle.sets.specs.Promises.{Sound, Below, Named, GroupSet, Surveyed, added, Placed, Turned};
+
+// Whether variable i is marked.
+pub fn is_marked(marks: u64, i: VariableNumber) -> bool
+    requires { ⌜ i .0 < 64 ⌝ }
+    ensures { λ r. ⌜ r ≡ marked marks i ⌝ }
+{
+    let n = i.0;
+    (marks >> n) % 2 == 1
+}
+
+// The set of a group. Nothing below this function knows of groups.
+pub fn group_set(writable: u64, groups: &[u64], g: GroupNumber) -> u64
+    requires { ⌜ g .0 < 3 + length (now groups) ⌝ }
+    ensures { λ r. ⌜ GroupSet writable (now (groups .entry)) g r ⌝ }
+{
+    let n = g.0;
+    if n == 0 {
+        return !0;
+    }
+    if n == 1 {
+        return !writable;
+    }
+    if n == 2 {
+        return writable;
+    }
+    groups[n - 3]
+}
+
+// Whether a group is writable, told whether all its members are: 1 and 2 are what they are even if empty.
+pub fn group_writable(g: GroupNumber, all: bool) -> bool
+    ensures { λ r. ⌜ r ≡ cond (eqb (g .0) 1) false (cond (eqb (g .0) 2) true all) ⌝ }
+{
+    let n = g.0;
+    if n == 1 {
+        return false;
+    }
+    if n == 2 {
+        return true;
+    }
+    all
+}
+
+// What a walk over a set finds: the bytes of all members, how many they are, whether all are writable, whether some is marked.
+pub struct Survey {
+    pub bytes: usize,
+    pub count: usize,
+    pub writable: bool,
+    pub marked: bool,
+}
+
+impl Survey {
+    // The survey with variable i, of n bytes, if it's a member.
+    fn turn(self, set: u64, i: VariableNumber, n: u8, writable: u64, marks: u64) -> Survey
+        requires { ⌜ (i .0 < 64) × (self .bytes ≤ 16320) × (self .count ≤ 64) ⌝ }
+        ensures { λ r. ⌜ r ≡ cond (marked set i) (added writable marks self i n) self ⌝ }
+    {
+        if is_marked(set, i) {
+            return Survey {
+                bytes: self.bytes + n as usize,
+                count: self.count + 1,
+                writable: self.writable & is_marked(writable, i),
+                marked: self.marked | is_marked(marks, i),
+            };
+        }
+        self
+    }
+
+    // One walk finds all four.
+    pub fn of(sizes: &[u8], set: u64, writable: u64, marks: u64) -> Survey
+        requires { ⌜ length (now sizes) ≤ 64 ⌝ }
+        ensures { λ r. ⌜ Surveyed (now (sizes .entry)) set writable marks r ⌝ }
+    {
+        let mut s = Survey {
+            bytes: 0,
+            count: 0,
+            writable: true,
+            marked: false,
+        };
+        let mut i = 0;
+        while i < sizes.len() {
+            s = s.turn(set, VariableNumber(i), sizes[i], writable, marks);
+            i += 1;
+        }
+        s
+    }
+}
+
+// The n bytes of variable i into the reply, if it's a member; answers the next place there.
+fn read_turn(
+    set: u64,
+    i: VariableNumber,
+    store: &[u8],
+    from: usize,
+    n: usize,
+    reply: &mut [u8],
+    to: usize,
+) -> usize
+    requires { ⌜ (i .0 < 64) × (from + n ≤ length (now store)) × (to + n ≤ length (now reply)) ⌝ }
+    ensures { λ r. ⌜ Turned (marked set i) n (part (now (store .entry)) from n) (now (reply .entry)) to to r (now (reply .exit)) ⌝ }
+{
+    if is_marked(set, i) {
+        lists::read_value(store, from, n, reply, to);
+        return to + n;
+    }
+    to
+}
+
+// The members' values, ascending, into the reply from `at` on; answers how many bytes they are.
+pub fn read_members(sizes: &[u8], set: u64, store: &[u8], reply: &mut [u8], at: usize) -> usize
+    requires { ⌜ Sound (now sizes) (now store) ⌝ }
+    requires { ⌜ at + 4096 ≤ length (now reply) ⌝ }
+    ensures { λ r. ⌜ Placed (told (cut (now (sizes .entry)) (now (store .entry))) (membersOf set (now (sizes .entry)))) 4096
+        (now (reply .entry)) at r (now (reply .exit)) ⌝ }
+{
+    let mut off: usize = 0;
+    let mut to = at;
+    let mut i = 0;
+    while i < sizes.len() {
+        let n = sizes[i] as usize;
+        to = read_turn(set, VariableNumber(i), store, off, n, reply, to);
+        off += n;
+        i += 1;
+    }
+    to - at
+}
+
+// The n bytes of variable i changed by the payload's, if it's a member; answers the next place in the payload.
+fn change_turn(
+    set: u64,
+    i: VariableNumber,
+    store: &mut [u8],
+    at: usize,
+    n: usize,
+    op: Operation,
+    payload: &[u8],
+    from: usize,
+) -> usize
+    requires { ⌜ (i .0 < 64) × (at + n ≤ length (now store)) × (from + cond (marked set i) n 0 ≤ length (now payload)) ⌝ }
+    ensures { λ r. ⌜ Turned (marked set i) n (changed op (part (now (store .entry)) at n) (part (now (payload .entry)) from n))
+        (now (store .entry)) at from r (now (store .exit)) ⌝ }
+{
+    if is_marked(set, i) {
+        lists::change_value(store, at, n, op, payload, from);
+        return from + n;
+    }
+    from
+}
+
+// Each member's value changed by its part of the payload, from place `front` on.
+pub fn change_members(
+    sizes: &[u8],
+    set: u64,
+    store: &mut [u8],
+    op: Operation,
+    payload: &[u8],
+    front: usize,
+)
+    requires { ⌜ Sound (now sizes) (now store) ⌝ }
+    requires { ⌜ front + setBytes set (now sizes) ≤ length (now payload) ⌝ }
+    ensures { λ _. ⌜ cut (now (sizes .entry)) (now (store .exit))
+        ≡ edited op (membersOf set (now (sizes .entry)))
+        (cut (map (sizeAt (now (sizes .entry))) (membersOf set (now (sizes .entry)))) (drop front (now (payload .entry))))
+        (cut (now (sizes .entry)) (now (store .entry))) ⌝ }
+{
+    let mut off: usize = 0;
+    let mut from = front;
+    let mut i = 0;
+    while i < sizes.len() {
+        let n = sizes[i] as usize;
+        from = change_turn(set, VariableNumber(i), store, off, n, op, payload, from);
+        off += n;
+        i += 1;
+    }
+}
+
+// The number of variable i into the reply, if it's a member; answers the next place there.
+fn list_turn(set: u64, i: VariableNumber, reply: &mut [u8], to: usize) -> usize
+    requires { ⌜ (i .0 < 64) × (to < length (now reply)) ⌝ }
+    ensures { λ r. ⌜ Turned (marked set i) 1 (i .0 ∷ []) (now (reply .entry)) to to r (now (reply .exit)) ⌝ }
+{
+    if is_marked(set, i) {
+        reply[to] = i.0 as u8;
+        return to + 1;
+    }
+    to
+}
+
+// The members' numbers, ascending, a byte each, into the reply from `at` on; answers how many they are.
+pub fn list_members(count: usize, set: u64, reply: &mut [u8], at: usize) -> usize
+    requires { ⌜ (count ≤ 64) × (at + 64 ≤ length (now reply)) ⌝ }
+    ensures { λ r. ⌜ Placed (map (λ i. i .0) (membersBelow set count)) 64 (now (reply .entry)) at r (now (reply .exit)) ⌝ }
+{
+    let mut to = at;
+    let mut i = 0;
+    while i < count {
+        to = list_turn(set, VariableNumber(i), reply, to);
+        i += 1;
+    }
+    to - at
+}
+
+// The set of the variables named: a union, so their order doesn't matter.
+pub fn set_of(ids: &[u8]) -> u64
+    requires { ⌜ Below 64 (now ids) ⌝ }
+    ensures { λ r. ⌜ Named (now (ids .entry)) r ⌝ }
+{
+    let mut set: u64 = 0;
+    let mut i = 0;
+    while i < ids.len() {
+        set = set | (1 << ids[i]);
+        i += 1;
+    }
+    set
+}
