@@ -1,19 +1,17 @@
 -- Demand 3, proved over demand 2's definition. Assumes nothing.
 use mathlib.Core.Path.{_≡_, refl, sym, ap, ap₂, _∙_, subst, fun-ext}
-use mathlib.Core.Logic.{_↔_, _≢_, _⊎_, inl, inr, ⊎-elim}
-use mathlib.Core.Bool.{Bool, true, false, cond, not, _&&_, _||_, false≢true}
+use mathlib.Core.Logic.{_↔_, _≢_, ⊎-elim}
+use mathlib.Core.Bool.{Bool, true, false, cond, not, _&&_, false≢true}
 use mathlib.Core.List.{List, [], _∷_, _++_, map}
 use Prim.Native.Nat.{ℕ, suc, _+_}
 use native.Mathlib.Omega.{arith}
 use native.Mathlib.Decide.{ℕ-discrete}
-use lib.Dec.{eqb}
-use lib.ListN.{length, take, drop, set, getD, length-append, List·getD-map, length-map}
-use lib.Seq.{take-at, drop-at}
+use lib.ListN.{length, drop, set, getD, length-append}
 use borrow.Author.Tests.{eqb-true, eqb-false}
 use Rattle.bsmp.specs.Base.{some, first, Test, join}
 use Rattle.bsmp.specs.Board.{variable, Table, Layout, layout, State, valueOf, isSame, usable}
-use Rattle.bsmp.specs.Message.{Change, nothing, edit, fill, regroup, Answer, say, tell, show, call, Line, changed, edited, filled, after, told, Said, replies, runs, spoken, said, stateAfter, Handled, carried, handled, asked, judge}
-use Rattle.bsmp.specs.Packet.{Place, Ending, reply, silence, run, Result, frame, ends, answered, refuse, isOwn, destination, message}
+use Rattle.bsmp.specs.Message.{Change, nothing, edit, fill, regroup, Answer, say, tell, show, call, Line, changed, edited, filled, after, told, replies, spoken, said, stateAfter, carried, handled, asked, judge}
+use Rattle.bsmp.specs.Packet.{Place, Ending, reply, silence, Result, frame, ends, answered, refuse, isOwn, destination, message}
 use Rattle.bsmp.specs.Packet.{boardTests, packetTests, packet, Ran, ranSays, resultTests, functionResult, storeTests, boardStore}
 use Rattle.bsmp.specs.Apart.{Alike, Event, arrives, returns, stores, happen, tells, readBy, readsIn, reads, answerOf, Apart, endings, later, unread}
 use Rattle.bsmp.specs.declared.VariableNumber.{VariableNumber}
@@ -23,7 +21,7 @@ use Rattle.bsmp.specs.declared.Operation.the-variants.{Replace}
 use Rattle.bsmp.specs.declared.Refusal.{Refusal}
 use Rattle.bsmp.specs.declared.Check.{Check}
 use Rattle.bsmp.specs.declared.Check.the-variants.{Pass, Fail}
-use Rattle.bsmp.proofs.Bools.{or-false, or-true, and-true, and-false}
+use Rattle.bsmp.proofs.Bools.{or-false, or-true, and-false}
 use Rattle.bsmp.proofs.Lists.{map-set, length-at, set-at, count-same, parts}
 
 -- numbers of variables

@@ -1,14 +1,13 @@
 -- The edges of 01's table of limits, computed: what is still taken and what is no more. Assumes nothing.
 use mathlib.Core.Path.{_≡_, refl}
-use mathlib.Core.Bool.{Bool, true, false, not}
+use mathlib.Core.Bool.{true, false}
 use mathlib.Core.List.{List, [], _∷_, map}
-use Prim.Native.Nat.{ℕ, _+_, _*_, _-_, _^_, _<_}
+use Prim.Native.Nat.{ℕ, _+_, _-_, _^_, _<_}
 use native.Mathlib.Omega.{arith}
-use lib.Dec.{ltb}
-use lib.IntN.{ℤ, pos, negsuc}
+use lib.IntN.{pos, negsuc}
 use lib.ListN.{length, replicate}
 use borrow.Author.Tests.{lt-ltb}
-use Rattle.bsmp.specs.Board.{variable, group, curve, Layout, usableVariables, usableCurves, usableFunctions, usableGroups}
+use Rattle.bsmp.specs.Board.{variable, group, Layout, usableVariables, usableCurves, usableFunctions, usableGroups}
 use Rattle.bsmp.specs.Message.{noGroup, blockMissing, curveRecord}
 use Rattle.bsmp.specs.Packet.{Place, usablePlace, inMulticast}
 use Rattle.bsmp.specs.Number.{Reading, is, reading, Written, bytes, writing}

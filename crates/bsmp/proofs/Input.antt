@@ -1,26 +1,20 @@
 -- A function to be run: its input stands at place 5 of the packet. Assumes nothing.
-use mathlib.Core.Path.{_≡_, refl, sym, ap, _∙_}
-use mathlib.Core.Bool.{Bool, true, false, _||_}
+use mathlib.Core.Path.{_≡_, sym, ap, _∙_}
+use mathlib.Core.Bool.{Bool, true, false}
 use mathlib.Core.List.{List, [], _∷_}
-use Prim.Native.Nat.{ℕ, zero, suc, _+_, _-_, _≤_}
+use Prim.Native.Nat.{ℕ, zero, suc, _-_}
 use native.Mathlib.Omega.{arith}
-use lib.Dec.{ltb}
 use lib.ListN.{length, take, drop, length-drop, length-take}
 use lib.Seq.{drop-drop, take-nil}
-use borrow.Author.Tests.{ltb-false}
-use Rattle.bsmp.specs.Base.{first, byteAt}
+use Rattle.bsmp.specs.Base.{byteAt}
 use Rattle.bsmp.specs.Board.{Table, Layout, layout, State, usable}
 use Rattle.bsmp.specs.Codes.{commandOf}
-use Rattle.bsmp.specs.Message.{Answer, say, tell, show, call, Said, replies, runs, spoken, said, stateAfter, carried, handled, Line, line, asked, judge}
-use Rattle.bsmp.specs.Packet.{Place, Ending, reply, silence, run, Result, refuse, ends, boardTests, packetTests, packet, isOwn, destination, message}
+use Rattle.bsmp.specs.Message.{Said, replies, runs, spoken, said, stateAfter, carried, handled, line, asked}
+use Rattle.bsmp.specs.Packet.{Place, Ending, reply, silence, run, refuse, ends, boardTests, packetTests, packet, message}
 use Rattle.bsmp.specs.declared.FunctionNumber.{FunctionNumber}
-use Rattle.bsmp.specs.declared.Refusal.{Refusal}
-use Rattle.bsmp.specs.declared.WireError.{WireError}
 use Rattle.bsmp.specs.declared.Command.{Command}
 use Rattle.bsmp.specs.declared.Command.the-variants.{Version, ListVariables, ListGroups, ShowGroup, ListCurves, ListFunctions, ReadVariable, ReadGroup, WriteVariable, WriteGroup}
 use Rattle.bsmp.specs.declared.Command.the-variants.{MaskVariable, MaskGroup, WriteRead, MakeGroup, RemoveGroups, ReadBlock, WriteBlock, RunFunction, Unknown}
-use Rattle.bsmp.specs.declared.Check.{Check}
-use Rattle.bsmp.specs.declared.Check.the-variants.{Pass, Fail}
 use Rattle.bsmp.proofs.Chain.{first-case}
 use Rattle.bsmp.proofs.Stays.{judge-case}
 

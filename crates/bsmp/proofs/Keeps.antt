@@ -1,22 +1,18 @@
 -- What nothing changes: a local refusal, a wire error; and a multicast is never answered. Assumes nothing.
-use mathlib.Core.Path.{_≡_, refl, sym, ap, ap₂, _∙_}
-use mathlib.Core.Bool.{Bool, true, false, cond, false≢true}
-use mathlib.Core.List.{List, [], _∷_, _++_}
-use Prim.Native.Nat.{ℕ, _-_, _+_, _≤_}
+use mathlib.Core.Path.{_≡_, refl, ap, ap₂, _∙_}
+use mathlib.Core.Bool.{Bool, true, false}
+use mathlib.Core.List.{List}
+use Prim.Native.Nat.{ℕ}
 use native.Mathlib.Omega.{arith}
-use lib.ListN.{length, take, drop}
-use Rattle.bsmp.specs.Base.{first}
 use Rattle.bsmp.specs.Board.{Table, Layout, layout, State, blockSizes, usable}
-use Rattle.bsmp.specs.Message.{Said, replies, runs, Line, carried, stateAfter, handled, asked, judge}
-use Rattle.bsmp.specs.Packet.{Place, Ending, reply, silence, run, Result, refuse, ends, boardTests, packetTests, packet, Ran, ranSays, resultTests, functionResult, storeTests, boardStore, isOwn, destination, message}
-use Rattle.bsmp.specs.Store.{Lent, held, lentOf, outcomeOf, shown, leaves}
+use Rattle.bsmp.specs.Message.{Said, replies, runs, carried, stateAfter, handled, asked, judge}
+use Rattle.bsmp.specs.Packet.{Place, Ending, reply, silence, run, refuse, ends, boardTests, packetTests, packet, resultTests, functionResult, storeTests, boardStore, isOwn, destination}
+use Rattle.bsmp.specs.Store.{Lent, held, lentOf, outcomeOf, shown}
 use Rattle.bsmp.specs.Apart.{Event, arrives, returns, stores, happen, Call, eventOf, bufferOf, leftBy}
 use Rattle.bsmp.specs.declared.Refusal.{Refusal}
 use Rattle.bsmp.specs.declared.WireError.{WireError}
-use Rattle.bsmp.specs.declared.Check.{Check}
-use Rattle.bsmp.specs.declared.Check.the-variants.{Pass, Fail}
-use Rattle.bsmp.specs.declared.Outcome.{Outcome}
-use Rattle.bsmp.specs.declared.Outcome.the-variants.{Reply, Silence, Run, Refused}
+use Rattle.bsmp.specs.declared.Check.the-variants.{Fail}
+use Rattle.bsmp.specs.declared.Outcome.the-variants.{Refused}
 use Rattle.bsmp.proofs.Chain.{first-case}
 use Rattle.bsmp.proofs.Store.{join-cut}
 

@@ -1,18 +1,18 @@
 -- Demand 3 over the lent flat stores and the reply buffer's bytes, as an entry sees them. Assumes nothing.
 use mathlib.Core.Path.{_≡_, refl, sym, ap, ap₂, _∙_, subst, subst₂}
 use mathlib.Core.Logic.{_↔_, _≢_}
-use mathlib.Core.Bool.{Bool, true, false}
-use mathlib.Core.List.{List, [], _∷_, _++_, map, head-eq-of-cons-eq, tail-eq-of-cons-eq}
+use mathlib.Core.Bool.{true}
+use mathlib.Core.List.{List, [], _∷_, map}
 use Prim.Native.Nat.{ℕ, _≤_, _<_}
 use native.Mathlib.Omega.{arith}
 use native.Mathlib.Decide.{decLt}
-use lib.ListN.{length, take, drop, getD, length-map, List·getD-eq-default}
+use lib.ListN.{length, drop, length-map, List·getD-eq-default}
 use lib.Seq.{take-at}
 use Rattle.bsmp.specs.Base.{sum, cut, join}
-use Rattle.bsmp.specs.Board.{Table, Layout, layout, State, valueOf, sizeOf, sizesOf, blockSizes, usable}
+use Rattle.bsmp.specs.Board.{Table, Layout, layout, State, valueOf, blockSizes, usable}
 use Rattle.bsmp.specs.Packet.{Place, Ending, reply, silence, run, Result}
-use Rattle.bsmp.specs.Store.{Lent, held, lentOf, bytesIn, outcomeOf, shown, leaves}
-use Rattle.bsmp.specs.Apart.{Alike, Event, happen, reads, answerOf, Apart, endings, later, unread}
+use Rattle.bsmp.specs.Store.{Lent, held, lentOf, bytesIn, outcomeOf, shown}
+use Rattle.bsmp.specs.Apart.{Alike, happen, reads, answerOf, endings, later, unread}
 use Rattle.bsmp.specs.Apart.{Call, eventOf, bufferOf, leftBy, Seen, answerIn, seenOf, seenAll, lentAfter, LentAlike}
 use Rattle.bsmp.specs.declared.VariableNumber.{VariableNumber}
 use Rattle.bsmp.proofs.Store.{join-cut, piece, sum-lengths}

@@ -1,15 +1,15 @@
 -- What `reads` says: the same on both boards, and exactly 01's three ways to read. Assumes nothing.
-use mathlib.Core.Path.{_≡_, refl, sym, ap, ap₂, _∙_}
+use mathlib.Core.Path.{_≡_, refl, ap₂, _∙_}
 use mathlib.Core.Logic.{_↔_, _⊎_, inl, inr}
 use mathlib.Core.Bool.{Bool, true, false, cond, _&&_, _||_, false≢true}
-use mathlib.Core.List.{List, [], _∷_, map}
+use mathlib.Core.List.{List, [], _∷_}
 use Prim.Native.Nat.{ℕ}
 use lib.ListN.{drop}
 use borrow.Author.Tests.{eq-eqb}
 use Rattle.bsmp.specs.Base.{some, first, Test, byteAt}
 use Rattle.bsmp.specs.Codes.{commandOf}
-use Rattle.bsmp.specs.Board.{variable, group, Table, Layout, layout, State, isSame, members, usable}
-use Rattle.bsmp.specs.Message.{Line, line, judge, asked, variableAt, groupAt}
+use Rattle.bsmp.specs.Board.{Table, Layout, layout, State, isSame, members, usable}
+use Rattle.bsmp.specs.Message.{line, judge, asked, variableAt, groupAt}
 use Rattle.bsmp.specs.Packet.{Place, boardTests, packetTests, isOwn, destination, message}
 use Rattle.bsmp.specs.Apart.{Alike, Event, arrives, returns, stores, tells, readBy, readsIn, reads}
 use Rattle.bsmp.specs.declared.VariableNumber.{VariableNumber}
@@ -19,7 +19,7 @@ use Rattle.bsmp.specs.declared.Command.the-variants.{Version, ListVariab
 use Rattle.bsmp.specs.declared.Command.the-variants.{MaskVariable, MaskGroup, WriteRead, MakeGroup, RemoveGroups, ReadBlock, WriteBlock, RunFunction, Unknown}
 use Rattle.bsmp.specs.declared.Check.{Check}
 use Rattle.bsmp.specs.declared.Check.the-variants.{Pass, Fail}
-use Rattle.bsmp.proofs.Bools.{or-false, and-true}
+use Rattle.bsmp.proofs.Bools.{and-true}
 use Rattle.bsmp.proofs.Chain.{clear, first-clear}
 use Rattle.bsmp.proofs.Apart.{usable-alike, same-number}
 

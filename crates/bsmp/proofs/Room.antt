@@ -1,18 +1,18 @@
 -- No reply is longer than 4,104 bytes, and its bytes sum to 0 modulo 256. Assumes nothing.
-use mathlib.Core.Path.{_≡_, refl, sym, ap, ap₂, _∙_}
-use mathlib.Core.Bool.{Bool, true, false, cond, not, _&&_, _||_}
+use mathlib.Core.Path.{_≡_, refl, ap₂, _∙_}
+use mathlib.Core.Bool.{Bool, true, false, _&&_}
 use mathlib.Core.List.{List, [], _∷_, _++_, map}
-use Prim.Native.Nat.{ℕ, zero, suc, _+_, _-_, _*_, _%_, _≤_, _<_}
+use Prim.Native.Nat.{ℕ, zero, suc, _+_, _*_, _%_, _≤_, _<_}
 use native.Mathlib.Omega.{arith}
-use lib.Dec.{eqb, leb, ltb, lit≤}
-use lib.ListN.{length, take, drop, getD, length-append, length-map}
+use lib.Dec.{leb, lit≤}
+use lib.ListN.{length, drop, getD, length-append, length-map}
 use borrow.Author.Tests.{leb-true, ltb-true, eqb-true, not-false}
-use Rattle.bsmp.specs.Base.{Test, first, all, every, sum, join, upFrom, within, byteAt, wordAt}
+use Rattle.bsmp.specs.Base.{all, every, sum, join, upFrom, within, byteAt, wordAt}
 use Rattle.bsmp.specs.Codes.{errorCode, commandOf}
-use Rattle.bsmp.specs.Board.{variable, group, curve, Table, Layout, layout, State, valueOf, blockOf, inGroup, sizesOf, sizeOf, variables, members, groupCount, blankCurve, blankFunction, curveOf, blockPlace, functionOf}
-use Rattle.bsmp.specs.Board.{usableVariable, variableRules, usableCurve, curveRules, rules, usable, usableVariables, usableCurves, usableFunctions, usableGroups}
-use Rattle.bsmp.specs.Message.{Answer, say, tell, show, call, variableList, groupList, curveRecord, curveList, functionList, Line, line, judge, asked, after, told, Said, replies, runs, spoken, stateAfter, said, carried, handled}
-use Rattle.bsmp.specs.Packet.{Place, Ending, reply, silence, run, Result, refuse, checksum, body, frame, ends, boardTests, packetTests, packet, Ran, gave, failed, badOutput, ranSays, resultTests, functionResult, storeTests, boardStore, isOwn, destination, message}
+use Rattle.bsmp.specs.Board.{variable, group, curve, Table, Layout, layout, State, valueOf, blockOf, inGroup, sizesOf, sizeOf, variables, members, blankCurve, blankFunction, curveOf, blockPlace, functionOf}
+use Rattle.bsmp.specs.Board.{variableRules, usableCurve, curveRules, rules, usable, usableVariables, usableCurves, usableFunctions, usableGroups}
+use Rattle.bsmp.specs.Message.{Answer, say, tell, show, call, variableList, groupList, curveRecord, curveList, functionList, Line, line, asked, after, told, replies, spoken, stateAfter, said, carried, handled}
+use Rattle.bsmp.specs.Packet.{Place, Ending, reply, silence, run, refuse, checksum, body, frame, ends, boardTests, packetTests, packet, Ran, gave, failed, badOutput, ranSays, resultTests, functionResult, storeTests, boardStore, message}
 use Rattle.bsmp.specs.Apart.{Event, arrives, returns, stores, happen}
 use Rattle.bsmp.specs.declared.VariableNumber.{VariableNumber}
 use Rattle.bsmp.specs.declared.GroupNumber.{GroupNumber}
@@ -22,7 +22,7 @@ use Rattle.bsmp.specs.declared.Function.{Function}
 use Rattle.bsmp.specs.declared.Command.{Command}
 use Rattle.bsmp.specs.declared.Command.the-variants.{Version, ListVariables, ListGroups, ShowGroup, ListCurves, ListFunctions, ReadVariable, ReadGroup, WriteVariable, WriteGroup}
 use Rattle.bsmp.specs.declared.Command.the-variants.{MaskVariable, MaskGroup, WriteRead, MakeGroup, RemoveGroups, ReadBlock, WriteBlock, RunFunction, Unknown}
-use Rattle.bsmp.proofs.Bools.{or-false, and-true, all-at}
+use Rattle.bsmp.proofs.Bools.{and-true, all-at}
 use Rattle.bsmp.proofs.Lists.{map-map, sum-append, every-at, length-upFrom, map-numbers, only-length, only-sum}
 use Rattle.bsmp.proofs.Chain.{clear, clear-at, broken-at, first-case}
 use Rattle.bsmp.proofs.Stays.{Kept, kept, value-length, block-length, line-fits, after-usable, judge-case}

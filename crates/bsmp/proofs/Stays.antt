@@ -1,21 +1,21 @@
 -- A usable board stays usable after every event, and its flat stores hold it from call to call. Assumes nothing.
 use mathlib.Core.Path.{_≡_, refl, sym, ap, ap₂, _∙_}
-use mathlib.Core.Bool.{Bool, true, false, cond, not, _&&_, _||_, true≢false}
+use mathlib.Core.Bool.{Bool, true, false, not, _&&_, true≢false}
 use mathlib.Core.List.{List, [], _∷_, _++_, map, head-eq-of-cons-eq, tail-eq-of-cons-eq}
-use Prim.Native.Nat.{ℕ, zero, suc, _+_, _-_, _*_, _^_, _≤_, _<_}
+use Prim.Native.Nat.{ℕ, zero, suc, _+_, _-_, _^_, _≤_, _<_}
 use native.Mathlib.Omega.{arith}
 use native.Mathlib.Nat.{zero-add, add-assoc}
 use lib.Dec.{eqb, leb, ltb}
 use lib.ListN.{length, take, drop, set, getD, replicate, length-append, length-drop, length-map, length-replicate, getD-replicate, List·getD-append, List·getD-map}
 use lib.Seq.{set-getD, getD-append-add}
-use borrow.Author.Tests.{eq-eqb, eqb-true, leb-true, leb-false, ltb-true, ltb-false, not-false, le-leb, lt-ltb}
-use Rattle.bsmp.specs.Base.{Test, test, first, some, all, every, sum, join, cut, within, ascending, byteAt, wordAt, marksOf, upFrom}
+use borrow.Author.Tests.{eq-eqb, eqb-true, leb-true, leb-false, ltb-true, not-false, le-leb, lt-ltb}
+use Rattle.bsmp.specs.Base.{some, all, every, sum, join, cut, byteAt, wordAt, upFrom}
 use Rattle.bsmp.specs.Codes.{commandOf}
-use Rattle.bsmp.specs.Board.{variable, curve, Table, Layout, layout, State, valueOf, blockOf, sizesOf, sizeOf, variables, isSame, members, groupBytes, setOf, blankCurve, curveOf, blockSizes, blockPlace}
-use Rattle.bsmp.specs.Board.{rules, usable, usableVariables, usableCurves, usableFunctions, usableGroups}
+use Rattle.bsmp.specs.Board.{variable, curve, Table, Layout, layout, State, valueOf, blockOf, sizesOf, sizeOf, variables, isSame, groupBytes, setOf, blankCurve, curveOf, blockSizes, blockPlace}
+use Rattle.bsmp.specs.Board.{rules, usable, usableGroups}
 use Rattle.bsmp.specs.Message.{Change, nothing, edit, fill, regroup, writesVariable, writesGroup, Line, line, check, formTests, judge, asked, changed, edited, filled, after, stateAfter, carried, handled}
-use Rattle.bsmp.specs.Packet.{Place, Result, refuse, boardTests, packetTests, packet, Ran, resultTests, functionResult, storeTests, boardStore, isOwn, destination, message}
-use Rattle.bsmp.specs.Store.{Lent, held, lentOf}
+use Rattle.bsmp.specs.Packet.{Place, refuse, boardTests, packetTests, packet, resultTests, functionResult, storeTests, boardStore, message}
+use Rattle.bsmp.specs.Store.{held, lentOf}
 use Rattle.bsmp.specs.Apart.{Event, arrives, returns, stores, happen, later}
 use Rattle.bsmp.specs.declared.VariableNumber.{VariableNumber}
 use Rattle.bsmp.specs.declared.CurveNumber.{CurveNumber}

@@ -1,23 +1,23 @@
 -- A message in a unicast packet is carried out, on any usable board; so 01's five wrong nodes don't meet the definition.
 -- Assumes nothing.
 use mathlib.Core.Path.{_≡_, refl, sym, ap, ap₂, _∙_}
-use mathlib.Core.Bool.{Bool, true, false, cond, not, _&&_, _||_}
-use mathlib.Core.List.{List, [], _∷_, _++_, map}
-use Prim.Native.Nat.{ℕ, _+_, _-_, _%_, _≤_, _<_, _^_, _*_}
+use mathlib.Core.Bool.{Bool, true, false}
+use mathlib.Core.List.{List, [], _∷_, _++_}
+use Prim.Native.Nat.{ℕ, _+_, _-_, _%_, _≤_, _^_, _*_}
 use native.Mathlib.Omega.{arith}
-use lib.Dec.{eqb, leb, ltb, lit≤}
-use lib.IntN.{ℤ, pos, negsuc}
-use lib.ListN.{length, take, drop, length-append, length-map}
+use lib.Dec.{leb, lit≤}
+use lib.IntN.{pos}
+use lib.ListN.{length, length-append, length-map}
 use lib.Pow.{pow-mono}
 use lib.Seq.{take-at}
-use borrow.Author.Tests.{eq-eqb, eqb-true, eqb-false, le-ltb, lt-ltb, lt-leb, leb-true, not-false}
-use Rattle.bsmp.specs.Base.{sum, some, all, within, byteAt, word}
-use Rattle.bsmp.specs.Board.{variable, Table, Layout, layout, State, setOf, variableRules, rules, usable, usableVariables}
-use Rattle.bsmp.specs.Message.{line, check, judge, spoken, said, stateAfter, after, carried, handled, asked}
+use borrow.Author.Tests.{eq-eqb, eqb-false, le-ltb, lt-ltb, lt-leb, leb-true}
+use Rattle.bsmp.specs.Base.{sum, some, byteAt, word}
+use Rattle.bsmp.specs.Board.{variable, Table, layout, State, setOf, variableRules, rules, usable, usableVariables}
+use Rattle.bsmp.specs.Message.{line, check, judge, spoken, said, stateAfter, after, carried, handled}
 use Rattle.bsmp.specs.Codes.{commandOf}
-use Rattle.bsmp.specs.Packet.{Place, Ending, reply, silence, run, Result, refuse, usablePlace, checksum, frame, ends, answered, boardTests, packetTests, packet, isOwn, message}
-use Rattle.bsmp.specs.Number.{inRange, recordOf, readingTests, rangeTests, Reading, is, reading, Written, bytes, writing, bytesOf, isBig, kindAt}
-use Rattle.bsmp.specs.Apart.{Event, arrives, happen, answerOf, later}
+use Rattle.bsmp.specs.Packet.{Place, Ending, reply, silence, refuse, usablePlace, checksum, frame, ends, answered, boardTests, packetTests, packet, message}
+use Rattle.bsmp.specs.Number.{inRange, recordOf, readingTests, Reading, is, reading, bytesOf, isBig, kindAt}
+use Rattle.bsmp.specs.Apart.{Event, arrives, answerOf, later}
 use Rattle.bsmp.specs.declared.VariableNumber.{VariableNumber}
 use Rattle.bsmp.specs.declared.Variable.{Variable}
 use Rattle.bsmp.proofs.Bools.{and-true, all-at}

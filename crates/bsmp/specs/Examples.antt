@@ -1,8 +1,8 @@
 -- Board A and 01's lines marked P, as a table; proofs/Examples has the one statement over it. Assumes nothing.
-use mathlib.Core.Bool.{Bool, true, false}
+use mathlib.Core.Bool.{true}
 use mathlib.Core.List.{List, [], _∷_, map, reverse}
 use Prim.Native.Nat.{ℕ, _-_}
-use lib.IntN.{ℤ, pos, negsuc}
+use lib.IntN.{negsuc}
 use lib.ListN.{length, take, drop}
 use Rattle.bsmp.specs.Board.{variable, Table, State}
 use Rattle.bsmp.specs.Packet.{Place, Ending, reply, silence, run, Result, packet}

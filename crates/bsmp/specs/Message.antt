@@ -1,21 +1,20 @@
 -- A message: what it asks for, the first error that it meets, what it changes and what is said to it. Nothing here knows how
 -- the message came: addresses and checksums stand above, in Packet. Assumes nothing.
-use mathlib.Core.Bool.{Bool, true, false, cond, not, _&&_, _||_}
+use mathlib.Core.Bool.{Bool, true, cond, not, _||_}
 use mathlib.Core.List.{List, [], _∷_, _++_, map}
 use Prim.Native.Nat.{ℕ, _+_, _-_, _*_}
 use lib.Dec.{leb, ltb, eqb}
 use lib.Bits.{bitAnd, bitOr, bitXor}
 use lib.ListN.{length, drop, set, getD}
-use Rattle.bsmp.specs.Base.{sum, upFrom, every, some, join, cut, ascending, within, bit, byteAt, wordAt, word, Test, test, first}
+use Rattle.bsmp.specs.Base.{upFrom, some, join, cut, ascending, within, bit, byteAt, wordAt, word, Test, test, first}
 use Rattle.bsmp.specs.Codes.{commandOf, operationOf, noOperation, errorCode}
-use Rattle.bsmp.specs.Board.{variable, group, curve, function, Layout, State, valueOf, blockOf, isWritable, sizeOf, marked}
+use Rattle.bsmp.specs.Board.{variable, group, curve, function, Layout, State, blockOf, isWritable, sizeOf, marked}
 use Rattle.bsmp.specs.Board.{members, groupBytes, groupHas, writableGroup, groupCount, setOf, curveOf, blockPlace, functionOf}
 use Rattle.bsmp.specs.declared.VariableNumber.{VariableNumber}
 use Rattle.bsmp.specs.declared.GroupNumber.{GroupNumber}
 use Rattle.bsmp.specs.declared.CurveNumber.{CurveNumber}
 use Rattle.bsmp.specs.declared.FunctionNumber.{FunctionNumber}
 use Rattle.bsmp.specs.declared.Curve.{Curve}
-use Rattle.bsmp.specs.declared.Function.{Function}
 use Rattle.bsmp.specs.declared.Command.{Command}
 use Rattle.bsmp.specs.declared.Command.the-variants.{Version, ListVariables, ListGroups, ShowGroup, ListCurves, ListFunctions, ReadVariable, ReadGroup, WriteVariable, WriteGroup}
 use Rattle.bsmp.specs.declared.Command.the-variants.{MaskVariable, MaskGroup, WriteRead, MakeGroup, RemoveGroups, ReadBlock, WriteBlock, RunFunction, Unknown}

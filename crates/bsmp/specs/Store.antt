@@ -1,5 +1,5 @@
 -- What a board lends to a call, flat, and what the call leaves there. Assumes nothing.
-use mathlib.Core.List.{List, [], _++_}
+use mathlib.Core.List.{List, _++_}
 use Prim.Native.Nat.{ℕ}
 use lib.ListN.{length, take, drop}
 use Rattle.bsmp.specs.Base.{sum, cut, join}

@@ -1,12 +1,11 @@
 -- Blocks in a flat store: where a curve's block starts, and a block whose first bytes are replaced. Assumes nothing.
-use mathlib.Core.Path.{_≡_, refl, sym, ap, ap₂, _∙_}
-use mathlib.Core.List.{List, [], _∷_, _++_, map}
+use mathlib.Core.Path.{_≡_, refl, sym, ap, _∙_}
+use mathlib.Core.List.{List, [], _∷_, _++_}
 use Prim.Native.Nat.{ℕ, zero, suc, _+_, _-_, _*_, _≤_, _<_}
 use native.Mathlib.Omega.{arith}
-use native.Mathlib.Nat.{add-assoc}
-use lib.ListN.{length, take, drop, set, getD, replicate, length-append, length-drop, length-take, length-replicate}
+use lib.ListN.{length, take, drop, set, getD, replicate, length-append, length-replicate}
 use lib.Seq.{drop-drop, take-nil, take-append-le, take-append-add}
-use Rattle.bsmp.specs.Base.{sum, cut, join}
+use Rattle.bsmp.specs.Base.{sum, cut}
 use Rattle.lists.proofs.Sum.{total-append, total-within}
 use Rattle.lists.specs.Put.{put, part}
 use Rattle.lists.proofs.Put.{put-put, put-same, part-put-past, length-put, length-part}

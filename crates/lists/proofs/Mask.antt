@@ -2,8 +2,6 @@
 use mathlib.Core.Path.{_≡_, refl, sym, ap, _∙_}
 use mathlib.Core.List.{List, [], _∷_}
 use Prim.Native.Nat.{ℕ, zero, suc, _+_, _-_, min, _≤_, _<_}
-use native.Mathlib.Numerals.{add-one}
-use lib.Bits.{bitAnd, bitOr, bitXor}
 use lib.ListN.{length, take, drop, getD, set, length-take, length-drop, drop-of-length-le}
 use borrow.Rule.Slice.PartMut.{midOf, putMid}
 use lib.Seq.{drop-set-lt, take-nil}

@@ -1,11 +1,10 @@
 -- A flat store and its pieces: a value is a part, and a write is a new piece. Assumes nothing.
-use mathlib.Core.Path.{_≡_, refl, sym, ap, ap₂, _∙_}
-use mathlib.Core.List.{List, [], _∷_, _++_, map, append-assoc, append-nil}
-use Prim.Native.Nat.{ℕ, zero, suc, _+_, _-_, _≤_, _<_}
+use mathlib.Core.Path.{_≡_, sym, ap, ap₂, _∙_}
+use mathlib.Core.List.{List, [], _∷_, _++_}
+use Prim.Native.Nat.{ℕ, zero, suc, _+_, _≤_, _<_}
 use native.Mathlib.Omega.{arith}
-use native.Mathlib.Nat.{zero-add, add-zero, add-assoc}
-use lib.ListN.{length, take, drop, set, getD, length-append, length-take, length-drop, take-append-drop}
-use lib.Seq.{take-at, drop-at, drop-drop, length-take-le, take-all}
+use lib.ListN.{length, take, drop, set, getD, length-drop, take-append-drop}
+use lib.Seq.{take-at, drop-at, length-take-le, take-all}
 use Rattle.bsmp.specs.Base.{sum, cut, join}
 use Rattle.bsmp.specs.Board.{variable}
 use Rattle.bsmp.proofs.Store.{join-cut, piece}
@@ -13,7 +12,7 @@ use Rattle.bsmp.specs.Message.{changed, edited}
 use Rattle.bsmp.specs.declared.Operation.{Operation}
 use Rattle.lists.proofs.Sum.{total-within}
 use Rattle.lists.specs.Put.{put, part}
-use Rattle.lists.proofs.Put.{put-behind, length-part}
+use Rattle.lists.proofs.Put.{put-behind}
 use Rattle.lists.proofs.Mask.{length-change}
 
 -- the bytes of piece i stand where those before it end

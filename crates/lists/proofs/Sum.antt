@@ -1,12 +1,12 @@
 -- Sums of lists, with the laws that callers cite. Assumes nothing.
-use mathlib.Core.Path.{_≡_, refl, sym, ap, _∙_}
+use mathlib.Core.Path.{_≡_, refl}
 use mathlib.Core.List.{List, [], _∷_, _++_}
 use Prim.Native.Nat.{ℕ, zero, suc, _+_, _≤_, _<_}
 use native.Mathlib.Numerals.{add-one}
 use native.Mathlib.Omega.{arith}
 use lib.ListN.{length, take, drop, getD, drop-of-length-le}
 use Rattle.bsmp.specs.Base.{sum}
-use lib.Seq.{take-suc, drop-cons, take-add, take-length}
+use lib.Seq.{take-suc, drop-cons, take-add}
 
 pub total-nil : sum [] ≡ 0
 unfolding sum

@@ -1,5 +1,5 @@
 -- What a pass says: none of the command's tests is broken. Assumes nothing.
-use mathlib.Core.Path.{_≡_, sym}
+use mathlib.Core.Path.{_≡_}
 use mathlib.Core.List.{List}
 use Prim.Native.Nat.{ℕ}
 use native.Mathlib.Omega.{arith}
@@ -7,7 +7,6 @@ use Rattle.bsmp.specs.Board.{Layout}
 use Rattle.bsmp.specs.Message.{line, check}
 use Rattle.bsmp.specs.declared.WireError.{WireError}
 use Rattle.bsmp.specs.declared.Command.{Command}
-use Rattle.bsmp.specs.declared.Check.{Check}
 use Rattle.bsmp.specs.declared.Check.the-variants.{Pass, Fail}
 use Rattle.bsmp.proofs.Chain.{clear, first-case}
 use Rattle.parts.specs.Parts.{Passed}

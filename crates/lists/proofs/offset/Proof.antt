@@ -1,17 +1,14 @@
-use mathlib.Core.Path.{_≡_, refl, sym, ap, _∙_}
-use mathlib.Core.List.{List, [], _∷_, _++_}
-use Prim.Native.Nat.{ℕ, suc, _+_, _-_, _*_, _/_, _%_, _≤_, _<_}
+-- `offset` meets its contract. Assumes nothing.
+use mathlib.Core.Path.{_≡_, ap, _∙_}
+use Prim.Native.Nat.{ℕ, _-_, _*_, _≤_}
 use native.Mathlib.Omega.{arith}
-use native.Mathlib.Numerals.{add-one}
-use lib.ListN.{length, take, drop, getD, set, length-set}
+use lib.ListN.{take}
 use denote.Ref.{now}
 use Rattle.lists.proofs.Sum.{total-take, total-nil}
 use Rattle.bsmp.specs.Base.{sum}
 use borrow.Author.Needs.{needs}
 use Rattle.lists.proofs.offset.Statement.{statement}
 use Rattle.lists.proofs.offset.Tie as tie
-use Rattle.lists.proofs.offset.Reads as reads
-use Rattle.lists.proofs.offset.Lts as lts
 
 abbrev Inv-loop : tie.InvT-loop
 Inv-loop sizes n acc₀ i₀ acc i = (i ≤ n) × (acc ≡ sum (take i sizes)) × (acc ≤ 255 * i)
@@ -22,20 +19,11 @@ abbrev μ-loop : tie.MeasureT-loop
 loop-holds : tie.Need-loop-holds Inv-loop μ-loop
 loop-holds c = omega (arith, total-nil)
 
-shared-slice-read-sum : tie.Need-shared-slice-read-sum Inv-loop μ-loop
-shared-slice-read-sum c = search needs
-
 cast-sum : tie.Need-cast-sum Inv-loop μ-loop
 cast-sum c = omega (arith, (c .shared-slice-known .given (c .before .before .loop .i)))
 
 add-sum : tie.Need-add-sum Inv-loop μ-loop
 add-sum c = omega (arith, (c .shared-slice-known .given (c .before .before .loop .i)))
-
-add-i : tie.Need-add-i Inv-loop μ-loop
-add-i c = search needs
-
-loop-less : tie.Need-loop-less Inv-loop μ-loop
-loop-less c = search needs
 
 loop-again : tie.Need-loop-again Inv-loop μ-loop
 loop-again c = omega (arith, (c .shared-slice-known .given (c .before .before .loop .i)), total-take (now (c .before .before .before .args .sizes)) (c .before .before .loop .i) (omega arith))
@@ -49,13 +37,4 @@ pub offset-spec : {M : Type 1} → statement M
 offset-spec =
     tie.close
     (tie.spec
-    Inv-loop
-    μ-loop
-    loop-holds
-    shared-slice-read-sum
-    cast-sum
-    add-sum
-    add-i
-    loop-less
-    loop-again
-    returns)
+    Inv-loop μ-loop loop-holds (λ c. search needs) cast-sum add-sum (λ c. search needs) (λ c. search needs) loop-again returns)
