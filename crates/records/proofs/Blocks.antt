@@ -1,0 +1,105 @@
+-- Curves in their store: where each curve and each block starts. Assumes nothing.
+use mathlib.Core.Path.{_≡_, refl, sym, ap, ap₂, _∙_}
+use mathlib.Core.Bool.{true}
+use mathlib.Core.List.{List, [], _∷_, _++_, map, map-append, append-assoc}
+use Prim.Native.Nat.{ℕ, suc, _+_, _*_, _≤_, _<_}
+use native.Mathlib.Omega.{arith}
+use native.Mathlib.Numerals.{add-one}
+use lib.ListN.{length, take, drop, getD, replicate, length-append, length-replicate, getD-replicate, take-append-drop, List·getD-append}
+use lib.Seq.{take-suc, split-at, getD-append-add}
+use mir.Syntax.{w64}
+use mir.Val.{Fits}
+use Rattle.bsmp.specs.Base.{sum}
+use Rattle.bsmp.specs.Board.{Layout, blankCurve, curveOf, blockPlace, blockSizes, usableCurves}
+use Rattle.bsmp.specs.Store.{start}
+use Rattle.bsmp.specs.declared.Curve.{Curve}
+use Rattle.bsmp.specs.declared.CurveNumber.{CurveNumber}
+use Rattle.bsmp.proofs.Store.{curve-bytes}
+use Rattle.lists.proofs.Sum.{total-append, total-within}
+use Rattle.lists.proofs.Blocks.{block-start}
+use Rattle.records.specs.Checks.{curveBytes}
+use Rattle.records.proofs.Sound.{curves-small}
+
+bytes-append : (xs ys : List Curve) → curveBytes (xs ++ ys) ≡ curveBytes xs + curveBytes ys
+bytes-append xs ys = ap sum (map-append (λ c. c .size * c .blocks) xs ys) ∙ total-append (map (λ c. c .size * c .blocks) xs) (map (λ c. c .size * c .blocks) ys)
+
+-- s bytes before curve i of usable curves, whose record is x; and so before the next
+module _ (cs : List Curve) (n i s : ℕ) (x : Curve) (u : usableCurves cs ≡ true) (l : n ≤ length cs) (h : i < n) (e : x ≡ getD cs i blankCurve) (q : s ≡ curveBytes (take i cs)) where
+  pub before-next : s + x .size * x .blocks ≡ curveBytes (take (i + 1) cs)
+  unfolding sum
+  before-next =
+      let k : i < length cs = omega arith in
+      let o : curveBytes (take (i + 1) cs) ≡ curveBytes (take i cs) + curveBytes (x ∷ []) =
+      rw (add-one, take-suc cs i blankCurve, e) (bytes-append (take i cs) (getD cs i blankCurve ∷ [])) in
+      omega (arith, o)
+
+  within : s + x .size * x .blocks ≤ 65536
+  within =
+      let o : curveBytes (take (i + 1) cs) + curveBytes (drop (i + 1) cs) ≡ curveBytes cs =
+      sym (bytes-append (take (i + 1) cs) (drop (i + 1) cs)) ∙ ap curveBytes (take-append-drop (i + 1) cs) in
+      omega (arith, o, before-next, curves-small cs u)
+
+  pub before-mul : Fits w64 (x .size * x .blocks)
+  before-mul = record { fits = omega (arith, within) }
+
+  pub before-add : Fits w64 (s + x .size * x .blocks)
+  before-add = record { fits = omega (arith, within) }
+
+pub before-start : 0 ≡ curveBytes []
+unfolding sum
+before-start = refl
+
+pub before-end : (cs : List Curve) (n i s : ℕ) → i ≤ n → n ≤ i → s ≡ curveBytes (take i cs) → s ≡ curveBytes (take n cs)
+before-end cs n i s h k e = let o : n ≡ i = omega arith in rw o e
+
+-- blocks
+blocks-append : (xs ys : List Curve) → blockSizes (xs ++ ys) ≡ blockSizes xs ++ blockSizes ys
+blocks-append [] ys = refl
+blocks-append (x ∷ xs) ys = ap (replicate (x .blocks) (x .size) ++_) (blocks-append xs ys) ∙ sym (append-assoc (replicate (x .blocks) (x .size)) (blockSizes xs) (blockSizes ys))
+
+block-count : (cs : List Curve) → length (blockSizes cs) ≡ sum (map (λ c. c .blocks) cs)
+unfolding sum
+block-count [] = refl
+block-count (c ∷ cs) = length-append (replicate (c .blocks) (c .size)) (blockSizes cs) ∙ ap₂ _+_ (length-replicate (c .blocks) (c .size)) (block-count cs)
+
+-- block k of curve c, whose record is x; over the curves alone, as `blockPlace l` computes for a layout l of them
+module _ (cs : List Curve) (c k : ℕ) (x : Curve) (h : c < length cs) (e : x ≡ getD cs c blankCurve) (b : k < x .blocks) where
+  abbrev before : List ℕ
+  before = blockSizes (take c cs)
+
+  abbrev own : List ℕ
+  own = replicate (x .blocks) (x .size)
+
+  abbrev place : ℕ
+  place = sum (map (λ y. y .blocks) (take c cs)) + k
+
+  split : blockSizes cs ≡ before ++ (own ++ blockSizes (drop (suc c) cs))
+  split = rw e (ap blockSizes (split-at cs c blankCurve h) ∙ blocks-append (take c cs) _)
+
+  placed : place ≡ length before + k
+  placed = ap (_+ k) (sym (block-count (take c cs)))
+
+  -- where it starts: after the curves before it, and k whole blocks
+  pub block-at : start (blockSizes cs) place ≡ curveBytes (take c cs) + k * x .size
+  block-at =
+      ap₂ (λ (i : ℕ) (ns : List ℕ). sum (take i ns)) placed split
+      ∙ block-start before (blockSizes (drop (suc c) cs)) k (x .blocks) (x .size) (omega arith)
+      ∙ ap (_+ k * x .size) (curve-bytes (take c cs))
+
+  pub block-size : getD (blockSizes cs) place 0 ≡ x .size
+  block-size =
+      ap₂ (λ (i : ℕ) (ns : List ℕ). getD ns i 0) placed split
+      ∙ getD-append-add before _ k 0
+      ∙ List·getD-append own _ 0 k (rw (length-replicate (x .blocks) (x .size)) b)
+      ∙ getD-replicate (x .blocks) k (x .size) 0 b
+
+  pub block-inside : place < length (blockSizes cs)
+  block-inside = rw (placed, split, length-append, length-append, length-replicate) (omega arith)
+
+  -- and the store has room for it
+  pub block-room : (curveBytes (take c cs) + k * x .size) + x .size ≤ curveBytes cs
+  block-room = omega (arith, total-within (blockSizes cs) place block-inside, block-at, block-size, curve-bytes cs)
+
+pub block-of : (l : Layout) (c : CurveNumber) (k : ℕ) → c .0 < length (l .curves) → k < curveOf l c .blocks
+    → start (blockSizes (l .curves)) (blockPlace l c k) ≡ curveBytes (take (c .0) (l .curves)) + k * curveOf l c .size
+block-of l c k h b = block-at (l .curves) (c .0) k (curveOf l c) h refl b

@@ -1,0 +1,164 @@
+-- The rules of refusal 1 as the code meets them, one after another. Assumes nothing.
+use mathlib.Core.Path.{_≡_, refl, sym, _∙_}
+use mathlib.Core.Bool.{Bool, true, false, not, _&&_, and-false}
+use mathlib.Core.List.{List, [], _∷_}
+use Prim.Native.Nat.{ℕ, zero, suc, _+_, _*_, _/_, _^_, _≤_, _<_}
+use native.Mathlib.Omega.{arith}
+use native.Mathlib.Nat.{lt-of-lt-of-le, mul-le-mul, one-mul, one-le-pow, pow-le-pow-right, div-eq-of-lt, le-div-iff-mul-le}
+use lib.Dec.{leb, ltb, eqb, lit<}
+use lib.ListN.{length, getD}
+use mir.Syntax.{w64}
+use mir.Val.{Fits}
+use borrow.Author.Tests.{lt-ltb, le-ltb, lt-leb, le-leb, ne-eqb, ltb-true, ltb-false, leb-true, not-false}
+use Rattle.bsmp.specs.Base.{sum, all, every, within}
+use Rattle.bsmp.specs.Codes.{kindOf}
+use Rattle.bsmp.specs.Board.{isType, fitsKind, sizesOf, writableOf, usableVariable, variableRules, usableVariables, usableCurve, curveRules, usableCurves}
+use Rattle.bsmp.specs.declared.Kind.{Kind}
+use Rattle.bsmp.specs.declared.Variable.{Variable}
+use Rattle.bsmp.specs.declared.Curve.{Curve}
+use Rattle.bsmp.specs.declared.Function.{Function}
+use Rattle.bsmp.proofs.Bools.{and-true}
+use Rattle.records.specs.Checks.{checkedOf, curveBytes, curvesCheckedOf}
+
+pub fits-case : (n x : ℕ) (k m : Kind) (b : Bool) → k ≡ kindOf x → k ≡ m → b ≡ fitsKind n m → b ≡ fitsKind n (kindOf x)
+fits-case n x k m b e o h = rw (← e, o) h
+
+-- rules joined by &&, one after another; x is what the code answers
+module _ (a b : Bool) where
+  pub and-next : (x : Bool) → a ≡ true → x ≡ b → x ≡ (a && b)
+  and-next x h e = rw h e
+
+  pub and-stop : a ≡ false → false ≡ (a && b)
+  and-stop h = rw h
+
+  pub both-on : a ≡ true → b ≡ true → (a && b) ≡ true
+  both-on h e = rw h e
+
+  pub left-off : a ≡ false → (a && b) ≡ false
+  left-off h = rw h
+
+  pub right-off : b ≡ false → (a && b) ≡ false
+  right-off h = rw h (and-false a)
+
+pub ruleset chain = (and-next, and-stop, both-on, left-off, right-off, lt-leb, le-leb)
+
+-- a rule that is broken breaks the board
+pub all-off : (bs : List Bool) (k : ℕ) → getD bs k true ≡ false → all bs ≡ false
+all-off [] k h = h
+all-off (b ∷ bs) zero h = rw h
+all-off (b ∷ bs) (suc k) h = rw (all-off bs k h) (and-false b)
+
+-- what a usable record bounds
+pub inside : (a b n : ℕ) → within a b n ≡ true → (a ≤ n) × (n ≤ b)
+inside a b n u = let w = and-true (leb a n) (leb n b) u in (leb-true a n (w .0), leb-true n b (w .1))
+
+pub variable-rules : (v : Variable) → usableVariable v ≡ true → (v .writable ≤ 1) × ((1 ≤ v .size) × (v .size ≤ 127))
+variable-rules v u =
+    let w = and-true (isType (v .writable)) (within 1 127 (v .size)) (and-true _ _ u .0) in
+    (leb-true _ _ (w .0), inside 1 127 (v .size) (w .1))
+
+pub curve-rules : (c : Curve) → usableCurve c ≡ true → ((1 ≤ c .size) × (c .size ≤ 4096)) × ((1 ≤ c .blocks) × (c .blocks ≤ 65536))
+curve-rules c u =
+    let w = and-true _ (within 1 65536 (c .blocks)) u in
+    (inside 1 4096 (c .size) (and-true (isType (c .writable)) _ (w .0) .1), inside 1 65536 (c .blocks) (w .1))
+
+-- a walk that adds up the bytes of usable curves; b is what the test of one gave
+module _ (c : Curve) (b : Bool) (e : b ≡ usableCurve c) (h : not b ≡ false) where
+  curve-small : c .size * c .blocks ≤ 268435456
+  curve-small = let w = curve-rules c (sym e ∙ not-false b h) in mul-le-mul (w .0 .1) (w .1 .1)
+
+  pub curve-fits : Fits w64 (c .size * c .blocks)
+  curve-fits = record { fits = omega (arith, curve-small) }
+
+  pub curve-sum-fits : (s i n : ℕ) → s ≤ 268435456 * i → i < n → n ≤ 8 → Fits w64 (s + c .size * c .blocks)
+  curve-sum-fits s i n k l m = record { fits = omega (arith, curve-small) }
+
+  pub curve-sum-small : (s i : ℕ) → s ≤ 268435456 * i → s + c .size * c .blocks ≤ 268435456 * (i + 1)
+  curve-sum-small s i k = omega (arith, curve-small)
+
+-- variables
+module _ (vs : List Variable) where
+  pub records-refused : usableVariables vs ≡ false → record { usable = false; total = 0; writable = 0 } ≡ checkedOf vs
+  unfolding checkedOf
+  records-refused h = rw h
+
+  pub variables-few : (k : ℕ) → k ≡ length vs → k < 1 → usableVariables vs ≡ false
+  unfolding usableVariables
+  variables-few k e h = rw (← e, lt-leb 1 k h)
+
+  pub variables-many : (k : ℕ) → k ≡ length vs → 64 < k → usableVariables vs ≡ false
+  unfolding usableVariables
+  variables-many k e h = rw (← e, lt-leb k 64 h, and-false (leb 1 k))
+
+  pub variables-broken : every usableVariable vs ≡ false → usableVariables vs ≡ false
+  unfolding usableVariables
+  variables-broken h = all-off (variableRules vs) 1 h
+
+  pub variables-large : (n : ℕ) → n ≡ sum (sizesOf vs) → 4096 < n → usableVariables vs ≡ false
+  unfolding usableVariables
+  variables-large n e h = all-off (variableRules vs) 2 (rw (← e) (lt-leb n 4096 h))
+
+  pub records-taken : (k n m : ℕ) → k ≡ length vs → 1 ≤ k → k ≤ 64 → every usableVariable vs ≡ true → n ≡ sum (sizesOf vs) → n ≤ 4096 → m ≡ writableOf vs
+      → record { usable = true; total = n; writable = m } ≡ checkedOf vs
+  unfolding checkedOf usableVariables
+  records-taken k n m q a b h e l w = rw (← q, le-leb 1 k a, le-leb k 64 b, h, ← e, le-leb n 4096 l, w)
+
+-- curves
+module _ (cs : List Curve) where
+  pub curves-refused : usableCurves cs ≡ false → record { usable = false; total = 0 } ≡ curvesCheckedOf cs
+  unfolding curvesCheckedOf
+  curves-refused h = rw h
+
+  pub curves-many : (k : ℕ) → k ≡ length cs → 8 < k → usableCurves cs ≡ false
+  unfolding usableCurves
+  curves-many k e h = rw (← e, lt-leb k 8 h)
+
+  pub curves-broken : every usableCurve cs ≡ false → usableCurves cs ≡ false
+  unfolding usableCurves
+  curves-broken h = all-off (curveRules cs) 1 h
+
+  pub curves-large : (n : ℕ) → n ≡ curveBytes cs → 65536 < n → usableCurves cs ≡ false
+  unfolding usableCurves
+  curves-large n e h = all-off (curveRules cs) 2 (rw (← e) (lt-leb n 65536 h))
+
+  pub curves-taken : (k n : ℕ) → k ≡ length cs → k ≤ 8 → every usableCurve cs ≡ true → n ≡ curveBytes cs → n ≤ 65536 → record { usable = true; total = n } ≡ curvesCheckedOf cs
+  unfolding curvesCheckedOf usableCurves
+  curves-taken k n q l h e b = rw (← q, le-leb k 8 l, h, ← e, le-leb n 65536 b)
+
+-- functions and groups: at most m of them, and each passes the test f
+module _ {A : Type 0} (f : A → Bool) (xs : List A) (m : ℕ) where
+  pub too-many : (k : ℕ) → k ≡ length xs → m < k → false ≡ (leb (length xs) m && every f xs)
+  too-many k e h = rw (← e, lt-leb k m h)
+
+  pub one-broken : every f xs ≡ false → false ≡ (leb (length xs) m && every f xs)
+  one-broken h = rw h (sym (and-false (leb (length xs) m)))
+
+  pub each-passes : (k : ℕ) → k ≡ length xs → k ≤ m → every f xs ≡ true → true ≡ (leb (length xs) m && every f xs)
+  each-passes k e l h = rw (← e, le-leb k m l, h)
+
+pub ruleset counted = (too-many, one-broken, each-passes)
+
+abbrev pub usableFunction : Function → Bool
+usableFunction f = leb (f .input) 15 && leb (f .output) 15
+
+abbrev pub usableGroup : (variables : ℕ) → ℕ → Bool
+usableGroup n m = ltb 0 m && ltb m (2 ^ n)
+
+-- a set's members are declared where nothing is left of it past the last variable
+module _ (m n : ℕ) where
+  pub group-empty : m < 1 → false ≡ usableGroup n m
+  group-empty h = rw (le-ltb 0 m (omega arith))
+
+  pub group-any : 1 ≤ m → 64 ≤ n → m < 2 ^ 64 → true ≡ usableGroup n m
+  group-any a h l =
+      let p : 2 ^ 64 ≤ 2 ^ n = pow-le-pow-right (lit< tt) h in
+      rw (lt-ltb 0 m (omega arith), lt-ltb m (2 ^ n) (lt-of-lt-of-le l p))
+
+  pub group-declared : 1 ≤ m → eqb (m / 2 ^ n) 0 ≡ usableGroup n m
+  group-declared a = rw (lt-ltb 0 m (omega arith)) (by (ltb m (2 ^ n)) refl)
+    where
+      by : (b : Bool) → ltb m (2 ^ n) ≡ b → eqb (m / 2 ^ n) 0 ≡ b
+      by true e = rw (div-eq-of-lt (ltb-true m (2 ^ n) e))
+      by false e =
+          let q : 1 ≤ m / 2 ^ n = le-div-iff-mul-le (one-le-pow n 2 (lit< tt)) .1 (rw (one-mul (2 ^ n)) (ltb-false m (2 ^ n) e)) in
+          ne-eqb (m / 2 ^ n) 0 (λ z. omega (arith, z, q))

@@ -1,0 +1,111 @@
+-- The lists that a board lends: how long they are, what stands at a number, and the same as a part of what is lent. Assumes nothing.
+use mathlib.Core.Path.{_≡_, refl, sym, ap, _∙_}
+use mathlib.Core.Bool.{Bool, true, false}
+use mathlib.Core.List.{List, [], _∷_, _++_, map, map-map}
+use Prim.Native.Nat.{ℕ, zero, suc, _+_, _*_, _/_, _≤_, _<_}
+use native.Mathlib.Omega.{arith}
+use native.Mathlib.Numerals.{add-one}
+use lib.Dec.{ltb}
+use lib.ListN.{length, take, drop, set, getD, length-set, List·getD-eq-default}
+use lib.Seq.{drop-cons, take-suc-set}
+use borrow.Author.Tests.{ltb-true, ltb-false}
+use Rattle.bsmp.specs.Base.{upFrom}
+use Rattle.bsmp.specs.Board.{blankCurve, blankFunction, sizesOf}
+use Rattle.bsmp.specs.declared.Variable.{Variable}
+use Rattle.bsmp.specs.declared.Curve.{Curve}
+use Rattle.bsmp.specs.declared.Function.{Function}
+use Rattle.records.specs.declared.Records.{Records}
+use Rattle.records.specs.declared.Groups.{Groups}
+use Rattle.records.specs.Lending.{numbered, recordAt, curveAt, functionAt, recordsOf, curvesOf, functionsOf, groupsOf}
+use Rattle.records.proofs.Walk.{length-numbered, numbered-at, padded-whole, padded-broken}
+
+-- the first n numbers of a list
+take-up : (l : List ℕ) (k n : ℕ) → k + n ≤ length l → map (λ i. getD l i 0) (upFrom k n) ≡ take n (drop k l)
+take-up l k zero h = refl
+take-up l k (suc n) h =
+    let q : k < length l = omega arith in
+    rw (drop-cons l k 0) (ap (getD l k 0 ∷_) (take-up l (suc k) n (omega arith)))
+
+take-numbered : (l : List ℕ) (n : ℕ) → n ≤ length l → numbered (λ i. getD l i 0) n ≡ take n l
+take-numbered l n h = take-up l 0 n (omega arith)
+
+abbrev pub noVariable : Variable
+noVariable = record { writable = 0; size = 0; kind = 0 }
+
+module _ (r : Records) where
+  pub record-count : r .count ≡ length (recordsOf r)
+  unfolding recordsOf
+  record-count = sym (length-numbered (recordAt r) (r .count))
+
+  pub record-at : (i : ℕ) → i < r .count → recordAt r i ≡ getD (recordsOf r) i noVariable
+  unfolding recordsOf
+  record-at i h = sym (numbered-at (recordAt r) (r .count) i noVariable h)
+
+  -- the sizes as a part of their column
+  pub sizes-lent : r .count ≤ length (r .sizes) → sizesOf (recordsOf r) ≡ take (r .count) (r .sizes)
+  unfolding recordsOf
+  sizes-lent h = map-map (λ v. v .size) (recordAt r) (upFrom 0 (r .count)) ∙ take-numbered (r .sizes) (r .count) h
+
+-- whole records, and what stands for one that is broken or missing
+module _ (ns : List ℕ) where
+  pub curve-count : (length ns + 2) / 3 ≡ length (curvesOf ns)
+  unfolding curvesOf
+  curve-count = sym (length-numbered (curveAt ns) ((length ns + 2) / 3))
+
+  abbrev whole-curve : ℕ → Curve
+  whole-curve c = record { writable = getD ns (3 * c) 0; size = getD ns (3 * c + 1) 0; blocks = getD ns (3 * c + 2) 0 }
+
+  pub curve-whole : (c : ℕ) → c < length ns / 3
+      → record { writable = getD ns (3 * c) 0; size = getD ns (3 * c + 1) 0; blocks = getD ns (3 * c + 2) 0 } ≡ getD (curvesOf ns) c blankCurve
+  unfolding curvesOf
+  curve-whole c h = padded-whole whole-curve blankCurve blankCurve (length ns / 3) ((length ns + 2) / 3) c h (omega arith)
+
+  pub curve-broken : (c : ℕ) → length ns / 3 ≤ c → blankCurve ≡ getD (curvesOf ns) c blankCurve
+  unfolding curvesOf
+  curve-broken c h = by (ltb c ((length ns + 2) / 3)) refl
+    where
+      by : (b : Bool) → ltb c ((length ns + 2) / 3) ≡ b → blankCurve ≡ getD (curvesOf ns) c blankCurve
+      by true e = padded-broken whole-curve blankCurve blankCurve (length ns / 3) ((length ns + 2) / 3) c h (ltb-true _ _ e)
+      by false e = sym (List·getD-eq-default (curvesOf ns) blankCurve (rw (← curve-count) (ltb-false _ _ e)))
+
+  pub function-count : (length ns + 1) / 2 ≡ length (functionsOf ns)
+  unfolding functionsOf
+  function-count = sym (length-numbered (functionAt ns) ((length ns + 1) / 2))
+
+  abbrev whole-function : ℕ → Function
+  whole-function f = record { input = getD ns (2 * f) 0; output = getD ns (2 * f + 1) 0 }
+
+  pub function-whole : (f : ℕ) → f < length ns / 2 → record { input = getD ns (2 * f) 0; output = getD ns (2 * f + 1) 0 } ≡ getD (functionsOf ns) f blankFunction
+  unfolding functionsOf
+  function-whole f h = padded-whole whole-function _ blankFunction (length ns / 2) ((length ns + 1) / 2) f h (omega arith)
+
+  pub function-broken : (f : ℕ) → f < length (functionsOf ns) → length ns / 2 ≤ f → record { input = 16; output = 0 } ≡ getD (functionsOf ns) f blankFunction
+  unfolding functionsOf
+  function-broken f k h = padded-broken whole-function _ blankFunction (length ns / 2) ((length ns + 1) / 2) f h (omega (arith, function-count))
+
+module _ (g : Groups) where
+  pub group-count : g .count ≡ length (groupsOf g)
+  unfolding groupsOf
+  group-count = sym (length-numbered (λ i. getD (g .sets) i 0) (g .count))
+
+  pub group-at : (i : ℕ) → i < g .count → getD (g .sets) i 0 ≡ getD (groupsOf g) i 0
+  unfolding groupsOf
+  group-at i h = sym (numbered-at (λ i. getD (g .sets) i 0) (g .count) i 0 h)
+
+  -- the groups as a part of their places
+  pub groups-lent : g .count ≤ length (g .sets) → groupsOf g ≡ take (g .count) (g .sets)
+  unfolding groupsOf
+  groups-lent h = take-numbered (g .sets) (g .count) h
+
+  -- one more, and none
+  pub groups-with : (m : ℕ) → g .count < length (g .sets) → groupsOf (record { count = g .count + 1; sets = set (g .sets) (g .count) m }) ≡ groupsOf g ++ (m ∷ [])
+  unfolding groupsOf
+  groups-with m h =
+      take-numbered (set (g .sets) (g .count) m) (g .count + 1) (simp length-set (omega arith))
+      ∙ ap (λ (n : ℕ). take n (set (g .sets) (g .count) m)) (add-one (g .count))
+      ∙ take-suc-set (g .sets) (g .count) m h
+      ∙ ap (λ (l : List ℕ). l ++ (m ∷ [])) (sym (groups-lent (omega arith)))
+
+pub groups-without : (l : List ℕ) → groupsOf (record { count = 0; sets = l }) ≡ []
+unfolding groupsOf
+groups-without l = refl

@@ -1,0 +1,7 @@
+pub mod Walk
+pub mod Lending
+pub mod Checks
+pub mod Counting
+pub mod Sound
+pub mod Blocks
+pub mod Whole

@@ -1,0 +1,105 @@
+-- What a usable board lets its caller lean on: the bounds of 01's table. Assumes nothing.
+use mathlib.Core.Path.{_≡_, sym, _∙_}
+use mathlib.Core.Bool.{Bool, true}
+use mathlib.Core.List.{List, [], _∷_}
+use Prim.Native.Nat.{ℕ, zero, suc, _^_, _≤_, _<_}
+use native.Mathlib.Omega.{arith}
+use lib.Dec.{leb}
+use lib.ListN.{length, getD}
+use borrow.Author.Tests.{leb-true, ltb-true, eqb-true}
+use Rattle.bsmp.specs.Base.{sum, every}
+use Rattle.bsmp.specs.Board.{Table, blankCurve, blankFunction, layout, sizesOf, blockSizes, usableVariable, variableRules, usableVariables, usableCurve, curveRules, usableCurves, usableFunctions, usableGroups, rules, usable}
+use Rattle.bsmp.specs.Store.{Lent, held}
+use Rattle.bsmp.specs.declared.Variable.{Variable}
+use Rattle.bsmp.specs.declared.Curve.{Curve}
+use Rattle.bsmp.specs.declared.Function.{Function}
+use Rattle.bsmp.proofs.Bools.{and-true, all-at}
+use Rattle.bsmp.proofs.Store.{store-test}
+use Rattle.records.specs.Checks.{curveBytes}
+use Rattle.records.proofs.Lending.{noVariable}
+use Rattle.records.proofs.Checks.{inside, variable-rules, curve-rules, usableFunction, usableGroup}
+
+pub record Sound (t : Table) (x : Lent) : Type 0 where
+  pub variables : usableVariables (t .variables) ≡ true
+  pub values : length (x .values) ≡ sum (sizesOf (t .variables))
+  pub curves : usableCurves (t .curves) ≡ true
+  pub blocks : length (x .curves) ≡ sum (blockSizes (t .curves))
+  pub functions : usableFunctions (t .functions) ≡ true
+  pub groups : usableGroups (length (t .variables)) (x .groups) ≡ true
+
+pub usable-sound : (t : Table) (x : Lent) → usable t (held (layout t) x) ≡ true → Sound t x
+unfolding usable
+usable-sound t x u =
+    let at = all-at (rules t (held (layout t) x)) u in
+    record {
+      variables = at 0;
+      values = eqb-true _ _ (sym (store-test (sizesOf (t .variables)) (x .values)) ∙ at 1);
+      curves = at 2;
+      blocks = eqb-true _ _ (sym (store-test (blockSizes (t .curves)) (x .curves)) ∙ at 3);
+      functions = at 4;
+      groups = at 5;
+    }
+
+every-at : {A : Type 0} (f : A → Bool) (xs : List A) (i : ℕ) (d : A) → every f xs ≡ true → i < length xs → f (getD xs i d) ≡ true
+every-at f [] i d u h = absurd (omega (arith, h))
+every-at f (x ∷ xs) zero d u h = and-true (f x) (every f xs) u .0
+every-at f (x ∷ xs) (suc i) d u h = every-at f xs i d (and-true (f x) (every f xs) u .1) (omega (arith, h))
+
+module _ (vs : List Variable) (u : usableVariables vs ≡ true) where
+  pub variables-some : 1 ≤ length vs
+  unfolding usableVariables
+  variables-some = inside 1 64 (length vs) (all-at (variableRules vs) u 0) .0
+
+  pub variables-most : length vs ≤ 64
+  unfolding usableVariables
+  variables-most = inside 1 64 (length vs) (all-at (variableRules vs) u 0) .1
+
+  pub variables-small : sum (sizesOf vs) ≤ 4096
+  unfolding usableVariables
+  variables-small = leb-true _ _ (all-at (variableRules vs) u 2)
+
+  pub variable-size : (i : ℕ) → i < length vs → (1 ≤ getD vs i noVariable .size) × (getD vs i noVariable .size ≤ 127)
+  unfolding usableVariables
+  variable-size i h = variable-rules (getD vs i noVariable) (every-at usableVariable vs i noVariable (all-at (variableRules vs) u 1) h) .1
+
+module _ (cs : List Curve) (u : usableCurves cs ≡ true) where
+  pub curves-most : length cs ≤ 8
+  unfolding usableCurves
+  curves-most = leb-true _ _ (all-at (curveRules cs) u 0)
+
+  pub curves-small : curveBytes cs ≤ 65536
+  unfolding usableCurves
+  curves-small = leb-true _ _ (all-at (curveRules cs) u 2)
+
+  module _ (c : ℕ) (h : c < length cs) where
+    usable-here : usableCurve (getD cs c blankCurve) ≡ true
+    unfolding usableCurves
+    usable-here = every-at usableCurve cs c blankCurve (all-at (curveRules cs) u 1) h
+
+    pub curve-size : (1 ≤ getD cs c blankCurve .size) × (getD cs c blankCurve .size ≤ 4096)
+    curve-size = curve-rules (getD cs c blankCurve) usable-here .0
+
+    pub curve-blocks : (1 ≤ getD cs c blankCurve .blocks) × (getD cs c blankCurve .blocks ≤ 65536)
+    curve-blocks = curve-rules (getD cs c blankCurve) usable-here .1
+
+module _ (fs : List Function) (u : usableFunctions fs ≡ true) where
+  pub functions-most : length fs ≤ 16
+  unfolding usableFunctions
+  functions-most = leb-true _ _ (and-true _ _ u .0)
+
+  pub function-bytes : (f : ℕ) → f < length fs → (getD fs f blankFunction .input ≤ 15) × (getD fs f blankFunction .output ≤ 15)
+  unfolding usableFunctions
+  function-bytes f h =
+      let w = and-true _ _ (every-at usableFunction fs f blankFunction (and-true (leb (length fs) 16) _ u .1) h) in
+      (leb-true _ _ (w .0), leb-true _ _ (w .1))
+
+module _ (n : ℕ) (gs : List ℕ) (u : usableGroups n gs ≡ true) where
+  pub groups-most : length gs ≤ 5
+  unfolding usableGroups
+  groups-most = leb-true _ _ (and-true _ _ u .0)
+
+  pub group-members : (g : ℕ) → g < length gs → (0 < getD gs g 0) × (getD gs g 0 < 2 ^ n)
+  unfolding usableGroups
+  group-members g h =
+      let w = and-true _ _ (every-at (usableGroup n) gs g 0 (and-true (leb (length gs) 5) _ u .1) h) in
+      (ltb-true _ _ (w .0), ltb-true _ _ (w .1))

@@ -1,0 +1,55 @@
+-- What a board lends, read as the definition's lists and table: for every number of records, usable or not. Assumes nothing.
+use mathlib.Core.Bool.{cond}
+use mathlib.Core.List.{List, map}
+use Prim.Native.Nat.{ℕ, _+_, _*_, _/_}
+use lib.Dec.{ltb}
+use lib.ListN.{length, getD}
+use Rattle.bsmp.specs.Base.{upFrom}
+use Rattle.bsmp.specs.Board.{Table, blankCurve}
+use Rattle.bsmp.specs.Store.{Lent}
+use Rattle.bsmp.specs.declared.Variable.{Variable}
+use Rattle.bsmp.specs.declared.Curve.{Curve}
+use Rattle.bsmp.specs.declared.Function.{Function}
+use Rattle.records.specs.declared.Records.{Records}
+use Rattle.records.specs.declared.Groups.{Groups}
+
+-- n things, numbered from 0
+abbrev pub numbered : {A : Type 0} → (ℕ → A) → ℕ → List A
+numbered f n = map f (upFrom 0 n)
+
+-- variable records, by columns
+abbrev pub recordAt : Records → ℕ → Variable
+recordAt r i = record { writable = getD (r .writable) i 0; size = getD (r .sizes) i 0; kind = getD (r .kinds) i 0 }
+
+unfoldable pub recordsOf : Records → List Variable
+recordsOf r = numbered (recordAt r) (r .count)
+
+-- three numbers for a curve: type, block size, blocks; one or two left over are one more record, which breaks the rules
+abbrev pub curveAt : List ℕ → ℕ → Curve
+curveAt ns c =
+    cond (ltb c (length ns / 3))
+    (record { writable = getD ns (3 * c) 0; size = getD ns (3 * c + 1) 0; blocks = getD ns (3 * c + 2) 0 })
+    blankCurve
+
+unfoldable pub curvesOf : List ℕ → List Curve
+curvesOf ns = numbered (curveAt ns) ((length ns + 2) / 3)
+
+-- two numbers for a function: input, output; one left over is one more record, which breaks the rules
+abbrev pub functionAt : List ℕ → ℕ → Function
+functionAt ns f =
+    cond (ltb f (length ns / 2))
+    (record { input = getD ns (2 * f) 0; output = getD ns (2 * f + 1) 0 })
+    (record { input = 16; output = 0 })
+
+unfoldable pub functionsOf : List ℕ → List Function
+functionsOf ns = numbered (functionAt ns) ((length ns + 1) / 2)
+
+-- the made groups, each as marks; more than there are places for count as empty sets, which break the rules
+unfoldable pub groupsOf : Groups → List ℕ
+groupsOf g = numbered (λ i. getD (g .sets) i 0) (g .count)
+
+abbrev pub tableOf : Records → (curves functions : List ℕ) → Table
+tableOf r cs fs = record { variables = recordsOf r; curves = curvesOf cs; functions = functionsOf fs }
+
+abbrev pub lent : (values curves groups : List ℕ) → Lent
+lent vs cs gs = record { values = vs; curves = cs; groups = gs }

@@ -1,0 +1,384 @@
+// What a board lends, read as the definition's table, and refusal 1: whether a record, store length or group breaks a rule.
+use bsmp::Curve;
+use bsmp::CurveNumber;
+use bsmp::Function;
+use bsmp::FunctionNumber;
+use bsmp::Kind;
+use bsmp::Variable;
+ghost use mathlib.Core.Path.{_≡_};
+ghost use mathlib.Core.Bool.{true, _&&_};
+ghost use mathlib.Core.List.{[], _∷_, _++_};
+ghost use Prim.Native.Nat.{_+_, _^_, _≤_, _<_};
+ghost use lib.Dec.{eqb, leb, ltb};
+ghost use lib.ListN.{length, take, getD, set};
+ghost use Rattle.bsmp.specs.Base.{some};
+ghost use Rattle.bsmp.specs.Codes.{kindOf};
+ghost use Rattle.bsmp.specs.Board.{blankCurve, blankFunction, fitsKind, usableVariable, usableCurve, usableCurves, usableFunctions, usableGroups};
+ghost use Rattle.records.specs.Lending.{recordsOf, curvesOf, functionsOf, groupsOf, tableOf, lent};
+ghost use Rattle.records.specs.Checks.{checkedOf, curveBytes, curvesCheckedOf, boardOf};
+
+// The variable records by columns; of the places from `count` on, nothing counts.
+pub struct Records {
+    pub count: usize,
+    pub writable: [u8; 64],
+    pub sizes: [u8; 64],
+    pub kinds: [u8; 64],
+}
+
+// The made groups as sets; of the places from `count` on, nothing counts.
+pub struct Groups {
+    pub count: usize,
+    pub sets: [u64; 5],
+}
+
+// Of usable records: the bytes of all values, and the writable variables as marks.
+pub struct Checked {
+    pub usable: bool,
+    pub total: usize,
+    pub writable: u64,
+}
+
+// Of usable curves: the bytes of all blocks.
+pub struct CurvesChecked {
+    pub usable: bool,
+    pub total: usize,
+}
+
+// Of a usable board: the writable variables as marks.
+pub struct Board {
+    pub usable: bool,
+    pub writable: u64,
+}
+
+impl Checked {
+    pub const REFUSED: Checked = Checked {
+        usable: false,
+        total: 0,
+        writable: 0,
+    };
+}
+
+impl CurvesChecked {
+    pub const REFUSED: CurvesChecked = CurvesChecked {
+        usable: false,
+        total: 0,
+    };
+}
+
+impl Board {
+    pub const REFUSED: Board = Board {
+        usable: false,
+        writable: 0,
+    };
+}
+
+fn fits_number(size: u8) -> bool
+    ensures { λ r. ⌜ r ≡ some (eqb size) (1 ∷ 2 ∷ 4 ∷ 8 ∷ []) ⌝ }
+{
+    match size {
+        1 => true,
+        2 => true,
+        4 => true,
+        8 => true,
+        _ => false,
+    }
+}
+
+fn fits_kind(size: u8, kind: u8) -> bool
+    ensures { λ r. ⌜ r ≡ fitsKind size (kindOf kind) ⌝ }
+{
+    let k = Kind::of(kind);
+    match k {
+        Kind::Plain => true,
+        Kind::Number { signed: _, big: _ } => fits_number(size),
+        Kind::Unknown => false,
+    }
+}
+
+fn usable_variable(v: Variable) -> bool
+    ensures { λ r. ⌜ r ≡ usableVariable v ⌝ }
+{
+    if 1 < v.writable {
+        return false;
+    }
+    if v.size < 1 {
+        return false;
+    }
+    if 127 < v.size {
+        return false;
+    }
+    fits_kind(v.size, v.kind)
+}
+
+// The rules of the variable records, with what their sizes and types add up to, in one walk.
+pub fn usable_records(records: Records) -> Checked
+    ensures { λ r. ⌜ r ≡ checkedOf (recordsOf records) ⌝ }
+{
+    let n = records.count;
+    if n < 1 {
+        return Checked::REFUSED;
+    }
+    if 64 < n {
+        return Checked::REFUSED;
+    }
+    let mut bytes: usize = 0;
+    let mut marks: u64 = 0;
+    let mut i = 0;
+    while i < n {
+        let v = Variable {
+            writable: records.writable[i],
+            size: records.sizes[i],
+            kind: records.kinds[i],
+        };
+        if !usable_variable(v) {
+            return Checked::REFUSED;
+        }
+        bytes += v.size as usize;
+        marks += (v.writable as u64) << i;
+        i += 1;
+    }
+    if 4096 < bytes {
+        return Checked::REFUSED;
+    }
+    Checked {
+        usable: true,
+        total: bytes,
+        writable: marks,
+    }
+}
+
+// How many curve records are lent, a broken one at the end included.
+pub fn curve_count(curves: &[u32]) -> usize
+    ensures { λ r. ⌜ r ≡ length (curvesOf (now (curves .entry))) ⌝ }
+{
+    (curves.len() + 2) / 3
+}
+
+// The record of curve c; zeros where there is none, and for a broken one at the end.
+pub fn curve_at(curves: &[u32], c: CurveNumber) -> Curve
+    ensures { λ r. ⌜ r ≡ getD (curvesOf (now (curves .entry))) (c .0) blankCurve ⌝ }
+{
+    let n = c.0;
+    if n < curves.len() / 3 {
+        let at = 3 * n;
+        Curve {
+            writable: curves[at],
+            size: curves[at + 1],
+            blocks: curves[at + 2],
+        }
+    } else {
+        Curve {
+            writable: 0,
+            size: 0,
+            blocks: 0,
+        }
+    }
+}
+
+fn usable_curve(c: Curve) -> bool
+    ensures { λ r. ⌜ r ≡ usableCurve c ⌝ }
+{
+    if 1 < c.writable {
+        return false;
+    }
+    if c.size < 1 {
+        return false;
+    }
+    if 4096 < c.size {
+        return false;
+    }
+    if c.blocks < 1 {
+        return false;
+    }
+    c.blocks <= 65536
+}
+
+// The rules of the curve records, with what their blocks add up to; each is tested before it counts, so that the sum fits.
+pub fn usable_curves(curves: &[u32]) -> CurvesChecked
+    ensures { λ r. ⌜ r ≡ curvesCheckedOf (curvesOf (now (curves .entry))) ⌝ }
+{
+    let n = curve_count(curves);
+    if 8 < n {
+        return CurvesChecked::REFUSED;
+    }
+    let mut total: usize = 0;
+    let mut i = 0;
+    while i < n {
+        let c = curve_at(curves, CurveNumber(i));
+        if !usable_curve(c) {
+            return CurvesChecked::REFUSED;
+        }
+        total += c.size as usize * c.blocks as usize;
+        i += 1;
+    }
+    if 65536 < total {
+        return CurvesChecked::REFUSED;
+    }
+    CurvesChecked {
+        usable: true,
+        total,
+    }
+}
+
+// Where curve c starts in the curve store: the bytes of all blocks of the curves before it.
+pub fn blocks_before(curves: &[u32], c: CurveNumber) -> usize
+    requires { ⌜ (usableCurves (curvesOf (now curves)) ≡ true) × (c .0 ≤ length (curvesOf (now curves))) ⌝ }
+    ensures { λ r. ⌜ r ≡ curveBytes (take (c .0) (curvesOf (now (curves .entry)))) ⌝ }
+{
+    let n = c.0;
+    let mut total: usize = 0;
+    let mut i = 0;
+    while i < n {
+        let before = curve_at(curves, CurveNumber(i));
+        total += before.size as usize * before.blocks as usize;
+        i += 1;
+    }
+    total
+}
+
+// How many function records are lent, a broken one at the end included.
+pub fn function_count(functions: &[u8]) -> usize
+    ensures { λ r. ⌜ r ≡ length (functionsOf (now (functions .entry))) ⌝ }
+{
+    (functions.len() + 1) / 2
+}
+
+// The record of function f.
+pub fn function_at(functions: &[u8], f: FunctionNumber) -> Function
+    requires { ⌜ f .0 < length (functionsOf (now functions)) ⌝ }
+    ensures { λ r. ⌜ r ≡ getD (functionsOf (now (functions .entry))) (f .0) blankFunction ⌝ }
+{
+    let n = f.0;
+    if n < functions.len() / 2 {
+        let at = 2 * n;
+        Function {
+            input: functions[at],
+            output: functions[at + 1],
+        }
+    } else {
+        Function {
+            input: 16,
+            output: 0,
+        }
+    }
+}
+
+fn usable_function(f: Function) -> bool
+    ensures { λ r. ⌜ r ≡ (leb (f .input) 15 && leb (f .output) 15) ⌝ }
+{
+    if 15 < f.input {
+        return false;
+    }
+    f.output <= 15
+}
+
+// The rules of the function records.
+pub fn usable_functions(functions: &[u8]) -> bool
+    ensures { λ r. ⌜ r ≡ usableFunctions (functionsOf (now (functions .entry))) ⌝ }
+{
+    let n = function_count(functions);
+    if 16 < n {
+        return false;
+    }
+    let mut i = 0;
+    while i < n {
+        let f = function_at(functions, FunctionNumber(i));
+        if !usable_function(f) {
+            return false;
+        }
+        i += 1;
+    }
+    true
+}
+
+// Whether a set has members, and only declared ones: none is left past the last variable. With 64 variables, which is too far
+// to shift, each of its marks is declared.
+fn usable_group(set: u64, variables: usize) -> bool
+    ensures { λ r. ⌜ r ≡ (ltb 0 set && ltb set (2 ^ variables)) ⌝ }
+{
+    if set < 1 {
+        return false;
+    }
+    if 64 <= variables {
+        return true;
+    }
+    set >> variables == 0
+}
+
+// The rules of the made groups.
+pub fn usable_groups(groups: Groups, variables: usize) -> bool
+    ensures { λ r. ⌜ r ≡ usableGroups variables (groupsOf groups) ⌝ }
+{
+    let n = groups.count;
+    if 5 < n {
+        return false;
+    }
+    let mut i = 0;
+    while i < n {
+        if !usable_group(groups.sets[i], variables) {
+            return false;
+        }
+        i += 1;
+    }
+    true
+}
+
+impl Groups {
+    // One group more.
+    pub fn with(self, members: u64) -> Groups
+        requires { ⌜ self .count < 5 ⌝ }
+        ensures { λ r. ⌜ (groupsOf r ≡ groupsOf self ++ (members ∷ [])) × (r .sets ≡ set (self .sets) (self .count) members) ⌝ }
+    {
+        let n = self.count;
+        let mut next = self;
+        next.sets[n] = members;
+        next.count = n + 1;
+        next
+    }
+
+    // No group; the places keep what they held.
+    pub fn without(self) -> Groups
+        ensures { λ r. ⌜ (groupsOf r ≡ []) × (r .sets ≡ self .sets) ⌝ }
+    {
+        let sets = self.sets;
+        Groups { count: 0, sets }
+    }
+}
+
+// Refusal 1 for the whole board: its records, the lengths of its stores, its groups.
+pub fn usable_board(
+    records: Records,
+    curves: &[u32],
+    functions: &[u8],
+    groups: Groups,
+    values: &[u8],
+    blocks: &[u8],
+) -> Board
+    ensures { λ r. ⌜ r ≡ boardOf (tableOf records (now (curves .entry)) (now (functions .entry)))
+        (lent (now (values .entry)) (now (blocks .entry)) (groupsOf groups)) ⌝ }
+{
+    let records_checked = usable_records(records);
+    if !records_checked.usable {
+        return Board::REFUSED;
+    }
+    if records_checked.total != values.len() {
+        return Board::REFUSED;
+    }
+    let curves_checked = usable_curves(curves);
+    if !curves_checked.usable {
+        return Board::REFUSED;
+    }
+    if curves_checked.total != blocks.len() {
+        return Board::REFUSED;
+    }
+    if !usable_functions(functions) {
+        return Board::REFUSED;
+    }
+    if !usable_groups(groups, records.count) {
+        return Board::REFUSED;
+    }
+    Board {
+        usable: true,
+        writable: records_checked.writable,
+    }
+}
