@@ -1,12 +1,26 @@
-// The parts of a payload: numbers of one byte, each of its sort, and the two-byte field.
+// The parts of a payload: none at all, numbers of one byte, each of its sort, and the two-byte field.
+use bsmp::Check;
 use bsmp::CurveNumber;
 use bsmp::FunctionNumber;
 use bsmp::GroupNumber;
 use bsmp::VariableNumber;
+use bsmp::WireError;
 ghost use mathlib.Core.Path.{_≡_};
 ghost use Prim.Native.Nat.{_+_, _*_, _<_};
 ghost use lib.ListN.{length};
-ghost use Rattle.bsmp.specs.Message.{variableAt, groupAt, curveAt, functionAt};
+ghost use Rattle.bsmp.specs.Base.{first};
+ghost use Rattle.bsmp.specs.Message.{noPayload, variableAt, groupAt, curveAt, functionAt};
+ghost use Rattle.bsmp.specs.declared.Check.the-variants.{Pass, Fail};
+
+// The test of a request without payload.
+pub fn check_empty(payload: &[u8]) -> Check
+    ensures { λ r. ⌜ r ≡ first (noPayload (now (payload .entry))) Fail Pass ⌝ }
+{
+    if payload.len() != 0 {
+        return Check::Fail(WireError::BadSize);
+    }
+    Check::Pass
+}
 
 fn wide(byte: u8) -> usize
     ensures { λ r. ⌜ r ≡ byte ⌝ }

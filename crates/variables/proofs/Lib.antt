@@ -1,0 +1,5 @@
+pub mod Named
+pub mod One
+pub mod Listing
+pub mod Passes
+pub mod Whole

@@ -1,0 +1,54 @@
+-- The tests of the variable that a payload's byte names, as code has them at a return. Assumes nothing.
+use mathlib.Core.Path.{_≡_, sym, ap, _∙_}
+use mathlib.Core.Bool.{Bool, true, false, not}
+use mathlib.Core.List.{List, [], _∷_}
+use Prim.Native.Nat.{ℕ, _+_, _≤_, _<_}
+use native.Mathlib.Omega.{arith}
+use lib.Dec.{eqb, ltb}
+use lib.ListN.{length, drop, getD}
+use borrow.Author.Tests.{lt-ltb, le-ltb}
+use Rattle.bsmp.specs.Base.{cut, byteAt, first}
+use Rattle.bsmp.specs.Board.{Layout, marked}
+use Rattle.bsmp.specs.Message.{variableAt, writesVariable, edited}
+use Rattle.bsmp.specs.declared.Operation.{Operation}
+use Rattle.bsmp.specs.declared.VariableNumber.{VariableNumber}
+use Rattle.bsmp.specs.declared.Check.{Check}
+use Rattle.bsmp.specs.declared.Check.the-variants.{Pass, Fail}
+use Rattle.sets.specs.Members.{sizeAt}
+use Rattle.variables.specs.Fits.{OneFits}
+
+module _ (p : List ℕ) (j : ℕ) (i : VariableNumber) (h : i ≡ variableAt p j) where
+  number : i .0 ≡ byteAt p j
+  number = ap (λ (x : VariableNumber). x .0) h
+
+  pub named-below : (n : ℕ) → byteAt p j < n → i .0 < n
+  named-below n l = rw number l
+
+  pub named-within : (n : ℕ) → byteAt p j < n → i .0 ≤ n
+  named-within n l = omega (arith, number)
+
+  pub named-known : (n : ℕ) → i .0 < n → not (ltb (byteAt p j) n) ≡ false
+  named-known n l = rw (lt-ltb _ _ (rw number at l))
+
+  pub named-missing : (n : ℕ) → n ≤ i .0 → not (ltb (byteAt p j) n) ≡ true
+  named-missing n l = rw (le-ltb _ _ (rw number at l))
+
+  pub named-marked : (m : ℕ) (w b : Bool) → w ≡ marked m i → not w ≡ b → not (marked m (variableAt p j)) ≡ b
+  named-marked m w b e k = rw (← number, ← e) k
+
+  -- a length against the front and the variable's bytes
+  pub named-whole : (ns : List ℕ) (k n s : ℕ) (b : Bool) → s ≡ sizeAt ns i → not (eqb k (n + s)) ≡ b → not (eqb k (n + getD ns (byteAt p j) 0)) ≡ b
+  named-whole ns k n s b e q = rw (← number, ← e) q
+
+module _ (ns p : List ℕ) (f : ℕ) (i : VariableNumber) (h : i ≡ variableAt p 0) where
+  pub named-fits : OneFits ns p f → length p ≡ f + sizeAt ns i
+  named-fits o = o .whole ∙ ap (λ (x : VariableNumber). f + sizeAt ns x) (sym h)
+
+  pub named-edited : (op : Operation) (s s′ : List ℕ) → cut ns s′ ≡ edited op (i ∷ []) (drop f p ∷ []) (cut ns s)
+      → cut ns s′ ≡ edited op (variableAt p 0 ∷ []) (drop f p ∷ []) (cut ns s)
+  named-edited op s s′ e = rw h at e
+
+-- the tests of a write, told whether the variable is busy
+pub named-writes : (p : List ℕ) (i : VariableNumber) (m : ℕ) (b : Bool) (l : Layout) (n : ℕ) (x : Check) → i ≡ variableAt p 0 → b ≡ marked m i
+    → x ≡ first (writesVariable l p n b) Fail Pass → x ≡ first (writesVariable l p n (marked m (variableAt p 0))) Fail Pass
+named-writes p i m b l n x h e q = q ∙ ap (λ (y : Bool). first (writesVariable l p n y) Fail Pass) (e ∙ ap (marked m) h)
