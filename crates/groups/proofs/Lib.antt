@@ -1,0 +1,5 @@
+pub mod Known
+pub mod Ascend
+pub mod Listing
+pub mod Pass
+pub mod Whole

@@ -1,0 +1,39 @@
+-- What the commands of groups ask of a payload, and what their walks find. Assumes nothing.
+use mathlib.Core.Path.{_≡_}
+use mathlib.Core.Bool.{not}
+use mathlib.Core.List.{List}
+use Prim.Native.Nat.{ℕ, _+_, _≤_, _<_}
+use lib.Dec.{ltb}
+use lib.ListN.{length}
+use Rattle.bsmp.specs.Base.{some, ascending}
+use Rattle.bsmp.specs.Board.{Layout, members, groupBytes, groupHas, writableGroup, groupCount}
+use Rattle.bsmp.specs.Message.{groupAt}
+use Rattle.bsmp.specs.declared.GroupNumber.{GroupNumber}
+use Rattle.sets.specs.declared.Survey.{Survey}
+use Rattle.groups.specs.declared.Ids.{Ids}
+
+-- a group that exists is named first
+pub record GroupKnown (gs p : List ℕ) : Type 0 where
+  pub some : 0 < length p
+  pub known : groupAt p 0 .0 < groupCount gs
+
+-- and after n bytes stand those of all its members, and no more
+pub record GroupFits (l : Layout) (gs p : List ℕ) (n : ℕ) : Type 0 where
+  pub some : 0 < length p
+  pub front : n ≤ length p
+  pub known : groupAt p 0 .0 < groupCount gs
+  pub whole : length p ≡ n + groupBytes l gs (groupAt p 0)
+
+-- what a walk over a group's members finds, and whether the group is writable
+pub record GroupSurvey (l : Layout) (gs : List ℕ) (g : GroupNumber) (marks : ℕ) (s : Survey) : Type 0 where
+  pub bytes : s .bytes ≡ groupBytes l gs g
+  pub count : s .count ≡ length (members l gs g)
+  pub writes : s .writable ≡ writableGroup l gs g
+  pub has : s .marked ≡ groupHas marks l gs g
+  pub small : s .bytes ≤ 16320
+  pub few : s .count ≤ 64
+
+-- the IDs looked through, on a board with so many variables
+pub record Looked (ids : List ℕ) (count : ℕ) (r : Ids) : Type 0 where
+  pub unknown : r .unknown ≡ some (λ i. not (ltb i count)) ids
+  pub ascends : r .ascending ≡ ascending ids
