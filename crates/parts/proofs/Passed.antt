@@ -11,7 +11,7 @@ use Rattle.bsmp.specs.declared.Check.the-variants.{Pass, Fail}
 use Rattle.bsmp.proofs.Chain.{clear, first-case}
 use Rattle.parts.specs.Parts.{Passed}
 
-fail-no : (e : WireError) → Fail e ≡ Pass → ⊥
+pub fail-no : (e : WireError) → Fail e ≡ Pass → ⊥
 fail-no e h = let z : _≡_ {A = ℕ} 0 1 = cc in omega arith
 
 pub check-clear : (l : Layout) (gs : List ℕ) (busy : ℕ) (p : List ℕ) (k : Command) → check l gs busy p k ≡ Pass → clear (line l gs p k .tests busy)

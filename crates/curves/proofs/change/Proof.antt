@@ -1,0 +1,22 @@
+-- `change` meets its contract. Assumes nothing.
+use borrow.Author.Needs.{needs}
+use native.Mathlib.Omega.{arith}
+use lib.ListN.{length-take, length-drop}
+use Rattle.curves.proofs.Placed.{block-filled}
+use Rattle.curves.proofs.change.Statement.{statement}
+use Rattle.curves.proofs.change.Tie as tie
+
+pub change-spec : {M : Type 1} → statement M
+change-spec =
+    tie.close
+    (tie.spec
+    (λ c κs. search needs)
+    (λ c. search needs)
+    (λ c. search needs)
+    (λ c. search needs)
+    (λ c. search needs)
+    (λ c. search needs)
+    (λ c. search needs)
+    (λ c κs. simp (length-take, length-drop) (omega arith))
+    (λ c. search needs)
+    (λ c. search (block-filled, needs)))

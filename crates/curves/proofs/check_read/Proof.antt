@@ -1,0 +1,23 @@
+-- `check_read` meets its contract. Assumes nothing.
+use borrow.Author.Needs.{needs}
+use borrow.Author.Tests.{eq-eqb, ne-eqb}
+use Rattle.bsmp.specs.Message.{line, check}
+use Rattle.bsmp.proofs.Chain.{first-next, first-stop, first-end}
+use Rattle.parts.proofs.Told.{not-on, not-off}
+use Rattle.curves.proofs.Named.{curve-missing, curve-known, block-told}
+use Rattle.curves.proofs.check_read.Statement.{statement}
+use Rattle.curves.proofs.check_read.Tie as tie
+
+pub check-read-spec : {M : Type 1} → statement M
+unfolding check line
+check-read-spec =
+    tie.close
+    (tie.spec
+    (λ c. search (first-stop, not-on, ne-eqb, needs) depth 5)
+    (λ c κs. search needs)
+    (λ c κs. search needs)
+    (λ c. search (first-next, first-stop, not-off, eq-eqb, curve-missing, needs) depth 6)
+    (λ c κs. search needs)
+    (λ c κs. search needs)
+    (λ c. search (first-next, first-stop, not-off, eq-eqb, curve-known, block-told, needs) depth 7)
+    (λ c. search (first-next, first-end, not-off, eq-eqb, curve-known, block-told, needs) depth 7))

@@ -1,0 +1,19 @@
+-- `put_word` meets its contract. Assumes nothing.
+use native.Mathlib.Omega.{arith}
+use lib.ListN.{length-set}
+use borrow.Author.Needs.{needs}
+use Rattle.curves.proofs.Listing.{word-put}
+use Rattle.curves.proofs.put_word.Statement.{statement}
+use Rattle.curves.proofs.put_word.Tie as tie
+
+pub put-word-spec : {M : Type 1} → statement M
+put-word-spec =
+    tie.close
+    (tie.spec
+    (λ c. search needs)
+    (λ c. search needs)
+    (λ c. search needs)
+    (λ c. search needs)
+    (λ c. simp length-set (omega arith))
+    (λ c. search needs)
+    (λ c. search (word-put, needs)))

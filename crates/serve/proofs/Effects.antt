@@ -1,0 +1,95 @@
+-- What a command that passed changes in the stores, from what its change says of the part that it writes. Assumes nothing.
+use mathlib.Core.Path.{_≡_, refl, ap, _∙_}
+use mathlib.Core.List.{List, [], _∷_, map}
+use Prim.Native.Nat.{ℕ, _≤_, _<_}
+use lib.ListN.{length, drop, set}
+use Rattle.bsmp.specs.Base.{cut, byteAt}
+use Rattle.bsmp.specs.Codes.{operationOf}
+use Rattle.bsmp.specs.Board.{Layout, sizeOf, members}
+use Rattle.bsmp.specs.Message.{variableAt, groupAt, line, edited, filled, after}
+use Rattle.bsmp.specs.declared.Operation.{Operation}
+use Rattle.bsmp.specs.declared.Operation.the-variants.{Replace}
+use Rattle.bsmp.specs.declared.Command.{Command}
+use Rattle.bsmp.specs.declared.Command.the-variants.{WriteVariable, WriteGroup, MaskVariable, MaskGroup, WriteRead, WriteBlock}
+use Rattle.parts.specs.Parts.{variablesOnly, Passed}
+use Rattle.records.specs.Lending.{curvesOf}
+use Rattle.variables.specs.Fits.{OneFits}
+use Rattle.variables.proofs.Passes as variables
+use Rattle.groups.specs.Promises.{GroupFits}
+use Rattle.groups.proofs.Pass as groups
+use Rattle.curves.specs.Fits.{BlockFits, blocksIn, placeOf, namedBlock}
+use Rattle.curves.proofs.Passes as curves
+use Rattle.serve.specs.Serve.{lentLayout, Stored, Makes}
+
+module _ (ns : List ℕ) (w : ℕ) (cs fs gs p : List ℕ) (k : Command) where
+  abbrev L : Layout
+  L = lentLayout ns w cs fs
+
+  as-command : (c : Command) → k ≡ c → Passed L gs p k → Passed L gs p c
+  as-command c e h = rw e at h
+
+  -- what a pass says, as the changes ask it
+  pub write-needs : k ≡ WriteVariable → Passed L gs p k → OneFits ns p 1
+  write-needs e h = variables.write-fits ns w _ _ gs p (as-command WriteVariable e h)
+
+  pub mask-needs : k ≡ MaskVariable → Passed L gs p k → OneFits ns p 2
+  mask-needs e h = variables.mask-fits ns w _ _ gs p (as-command MaskVariable e h)
+
+  pub mask-operation : k ≡ MaskVariable → Passed L gs p k → 1 < length p
+  mask-operation e h = variables.mask-second ns w _ _ gs p (as-command MaskVariable e h)
+
+  pub write-read-needs : k ≡ WriteRead → Passed L gs p k → OneFits ns p 2
+  write-read-needs e h = variables.write-read-fits ns w _ _ gs p (as-command WriteRead e h)
+
+  pub group-write-needs : k ≡ WriteGroup → Passed L gs p k → GroupFits (variablesOnly ns w) gs p 1
+  group-write-needs e h = groups.write-fits ns w _ _ gs p (as-command WriteGroup e h)
+
+  pub group-mask-needs : k ≡ MaskGroup → Passed L gs p k → GroupFits (variablesOnly ns w) gs p 2
+  group-mask-needs e h = groups.mask-fits ns w _ _ gs p (as-command MaskGroup e h)
+
+  pub group-mask-operation : k ≡ MaskGroup → Passed L gs p k → 1 < length p
+  group-mask-operation e h = groups.mask-some ns w _ _ gs p (as-command MaskGroup e h)
+
+  pub block-needs : k ≡ WriteBlock → Passed L gs p k → BlockFits (curvesOf cs) p
+  block-needs e h = curves.write-fits ns w _ _ gs p (as-command WriteBlock e h)
+
+  -- what the stores then hold
+  module _ (vs bs vs′ bs′ : List ℕ) where
+    pub write-stored : k ≡ WriteVariable → cut ns vs′ ≡ edited Replace (variableAt p 0 ∷ []) (drop 1 p ∷ []) (cut ns vs)
+        → Stored L (line L gs p k .change) gs vs bs vs′ bs
+    unfolding line after
+    write-stored e h = rw e (record { values = h; blocks = refl })
+
+    pub mask-stored : (op : Operation) → k ≡ MaskVariable → op ≡ operationOf (byteAt p 1)
+        → cut ns vs′ ≡ edited op (variableAt p 0 ∷ []) (drop 2 p ∷ []) (cut ns vs) → Stored L (line L gs p k .change) gs vs bs vs′ bs
+    unfolding line after
+    mask-stored op e o h = rw e (record { values = rw o at h; blocks = refl })
+
+    pub write-read-stored : k ≡ WriteRead → cut ns vs′ ≡ edited Replace (variableAt p 0 ∷ []) (drop 2 p ∷ []) (cut ns vs)
+        → Stored L (line L gs p k .change) gs vs bs vs′ bs
+    unfolding line after
+    write-read-stored e h = rw e (record { values = h; blocks = refl })
+
+    abbrev groupEdited : Operation → ℕ → List (List ℕ)
+    groupEdited op n =
+        edited op (members (variablesOnly ns w) gs (groupAt p 0))
+        (cut (map (sizeOf (variablesOnly ns w)) (members (variablesOnly ns w) gs (groupAt p 0))) (drop n p)) (cut ns vs)
+
+    pub group-write-stored : k ≡ WriteGroup → cut ns vs′ ≡ groupEdited Replace 1 → Stored L (line L gs p k .change) gs vs bs vs′ bs
+    unfolding line after members
+    group-write-stored e h = rw e (record { values = h; blocks = refl })
+
+    pub group-mask-stored : (op : Operation) → k ≡ MaskGroup → op ≡ operationOf (byteAt p 1) → cut ns vs′ ≡ groupEdited op 2
+        → Stored L (line L gs p k .change) gs vs bs vs′ bs
+    unfolding line after members
+    group-mask-stored op e o h = rw e (record { values = rw o at h; blocks = refl })
+
+    pub block-stored : k ≡ WriteBlock
+        → blocksIn (curvesOf cs) bs′ ≡ set (blocksIn (curvesOf cs) bs) (placeOf (curvesOf cs) p) (filled (drop 3 p) (namedBlock (curvesOf cs) bs p))
+        → Stored L (line L gs p k .change) gs vs bs vs bs′
+    unfolding line after
+    block-stored e h = rw e (record { values = refl; blocks = h })
+
+-- a request for a new group names variables below 64
+pub makes : (ns : List ℕ) (w : ℕ) (cs fs gs p : List ℕ) (k : Command) → length ns ≤ 64 → Passed (lentLayout ns w cs fs) gs p k → Makes k p
+makes ns w cs fs gs p k h q = record { below = λ e. groups.make-below ns w _ _ gs p (rw e at q) h }

@@ -1,0 +1,4 @@
+pub mod Said
+pub mod Effects
+pub mod Answers
+pub mod Judging
