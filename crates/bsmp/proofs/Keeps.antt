@@ -48,7 +48,7 @@ refusal-keeps t a (stores i b) s r =
     first-case (λ x. x .ending ≡ Ending.refused r → x .state ≡ s) (storeTests (usable t s) (layout t) i b) (refuse s) _ (λ m h. refl)
     (λ c h. absurd (silence-allowed r h))
 
-outcome-refused : (e : Ending) (r : Refusal) → outcomeOf e ≡ Refused r → e ≡ Ending.refused r
+pub outcome-refused : (e : Ending) (r : Refusal) → outcomeOf e ≡ Refused r → e ≡ Ending.refused r
 outcome-refused (reply b) r h = cc
 outcome-refused silence r h = cc
 outcome-refused (run f i due) r h = cc

@@ -205,7 +205,7 @@ judge-case l gs busy m P f g =
     first-case P (formTests m) Fail (check l gs busy (drop 3 m) (commandOf (byteAt m 0))) f
     (λ c. first-case P (asked l gs m .tests busy) Fail Pass f g)
 
-handled-usable : (t : Table) (busy : ℕ) (m : List ℕ) (s : State) → usable t s ≡ true → usable t (handled (layout t) busy m s .state) ≡ true
+pub handled-usable : (t : Table) (busy : ℕ) (m : List ℕ) (s : State) → usable t s ≡ true → usable t (handled (layout t) busy m s .state) ≡ true
 unfolding handled carried stateAfter
 handled-usable t busy m s h =
     judge-case (layout t) (s .groups) busy m (λ v. usable t (carried (asked (layout t) (s .groups) m) v s .state) ≡ true) (λ e. h)

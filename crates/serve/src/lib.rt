@@ -142,24 +142,14 @@ fn effect(
             2,
         ),
         Command::WriteRead => variables::change(sizes, values, Operation::Replace, payload, 2),
-        Command::WriteGroup => groups::change(
-            sizes,
-            writable,
-            groups,
-            values,
-            Operation::Replace,
-            payload,
-            1,
-        ),
-        Command::MaskGroup => groups::change(
-            sizes,
-            writable,
-            groups,
-            values,
-            Operation::of(payload[1]),
-            payload,
-            2,
-        ),
+        Command::WriteGroup => {
+            let op = Operation::Replace;
+            groups::change(sizes, writable, groups, values, op, payload, 1)
+        }
+        Command::MaskGroup => {
+            let op = Operation::of(payload[1]);
+            groups::change(sizes, writable, groups, values, op, payload, 2)
+        }
         Command::WriteBlock => curves::change(curves, store, payload),
         Command::MakeGroup => {}
         Command::RemoveGroups => {}

@@ -1,0 +1,4 @@
+pub mod Ending
+pub mod Tables
+pub mod Work
+pub mod Unique

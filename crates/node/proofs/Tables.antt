@@ -1,0 +1,126 @@
+-- The group table after a call, and what a usable board's lent parts are. Assumes nothing.
+use mathlib.Core.Path.{_≡_, refl, sym, ap, ap₂, _∙_}
+use mathlib.Core.Bool.{true}
+use mathlib.Core.List.{List, [], _∷_, _++_, append-assoc}
+use Prim.Native.Nat.{ℕ, _+_, _-_, _≤_, _<_}
+use native.Mathlib.Omega.{arith}
+use native.Mathlib.Decide.{decLt}
+use lib.ListN.{length, take, drop, getD, set, length-append, length-take, length-drop, length-set, List·getD-append}
+use lib.Seq.{take-all, getD-take, getD-drop, getD-append-add, ext-getD}
+use Rattle.bsmp.specs.Base.{sum, join, cut}
+use Rattle.bsmp.specs.Board.{Table, Layout, layout, State, sizesOf, writableOf, blockSizes, usable}
+use Rattle.bsmp.specs.Packet.{Result, refuse}
+use Rattle.bsmp.specs.declared.Refusal.{Refusal}
+use Rattle.bsmp.specs.declared.Outcome.the-variants as O
+use Rattle.bsmp.proofs.Store.{join-cut}
+use Rattle.lists.specs.Put.{put}
+use Rattle.lists.proofs.Put.{set-put}
+use Rattle.sets.specs.Promises.{Sound}
+use Rattle.records.specs.Lending.{recordsOf, curvesOf, functionsOf, groupsOf, tableOf, lent}
+use Rattle.records.specs.declared.Records.{Records}
+use Rattle.records.specs.declared.Groups.{Groups}
+use Rattle.records.proofs.Lending.{record-count, sizes-lent, group-count, group-at, groups-lent}
+use Rattle.records.proofs.Whole.{layout-lent}
+use Rattle.records.proofs.Sound as R
+use Rattle.variables.proofs.Listing.{sizes-usable}
+use Rattle.serve.specs.Serve.{lentLayout, heldBy, Standing, regrouped}
+use Rattle.serve.specs.declared.Regroup.{Regroup}
+use Rattle.serve.specs.declared.Regroup.the-variants.{Keep, Make, Remove}
+use Rattle.node.specs.Promise.{lentState, tableWith, lasting, left, Leaves, Fits, Ready}
+use Rattle.node.specs.declared.Done.{Done}
+
+-- the table of the groups that it holds is the table, whatever its count
+module _ (g : Groups) (five : length (g .sets) ≡ 5) where
+  places : List ℕ
+  places = groupsOf g ++ drop (length (groupsOf g)) (g .sets)
+
+  places-length : 5 ≤ length places
+  unfolding places
+  places-length = simp (length-append, length-drop) (omega arith)
+
+  place-at : (i : ℕ) → i < 5 → getD places i 0 ≡ getD (g .sets) i 0
+  unfolding places
+  place-at i h = by (decLt i (length (groupsOf g)))
+    where
+      n : ℕ
+      n = length (groupsOf g)
+
+      by : Dec (i < n) → getD (groupsOf g ++ drop n (g .sets)) i 0 ≡ getD (g .sets) i 0
+      by (yes k) = List·getD-append (groupsOf g) (drop n (g .sets)) 0 i k ∙ sym (group-at g i (omega (arith, group-count g)))
+      by (no k) =
+          let e : i ≡ n + (i - n) = omega arith in
+          ap (λ j. getD (groupsOf g ++ drop n (g .sets)) j 0) e ∙ getD-append-add (groupsOf g) (drop n (g .sets)) (i - n) 0
+          ∙ getD-drop n (g .sets) (i - n) 0 ∙ ap (λ j. getD (g .sets) j 0) (sym e)
+
+  pub table-same : g ≡ tableWith (groupsOf g) g
+  unfolding places
+  table-same =
+      let l : length (take 5 places) ≡ 5 = simp length-take (omega (arith, places-length)) in
+      let s : take 5 places ≡ g .sets =
+      ext-getD 0 (take 5 places) (g .sets) (l ∙ sym five) (λ i h. getD-take 5 places i 0 (omega arith) ∙ place-at i (omega arith)) in
+      λ i. record { count = group-count g i; sets = sym s i }
+
+-- .. with one group more, and with none
+pub table-with : (g x : Groups) (m : ℕ) → length (g .sets) ≡ 5 → g .count < 5 → (groupsOf x ≡ groupsOf g ++ m ∷ []) × (x .sets ≡ set (g .sets) (g .count) m)
+    → x ≡ tableWith (groupsOf g ++ m ∷ []) g
+unfolding put
+table-with g x m five h e =
+    let n : ℕ = g .count in
+    let c : x .count ≡ length (groupsOf g ++ m ∷ []) = group-count x ∙ ap length (e .0) in
+    let k : length (groupsOf g ++ m ∷ []) ≡ n + 1 = simp length-append (omega (arith, group-count g)) in
+    let t : groupsOf g ≡ take n (g .sets) = groups-lent g (omega arith) in
+    let p : (groupsOf g ++ m ∷ []) ++ drop (length (groupsOf g ++ m ∷ [])) (g .sets) ≡ x .sets =
+    append-assoc (groupsOf g) (m ∷ []) _ ∙ ap₂ (λ a b. a ++ m ∷ drop b (g .sets)) t k ∙ sym (set-put (g .sets) n m (omega arith)) ∙ sym (e .1) in
+    let l : length (x .sets) ≤ 5 = rw (e .1, length-set (g .sets) n m) (omega arith) in
+    λ i. record { count = c i; sets = (sym (take-all 5 (x .sets) l) ∙ ap (take 5) (sym p)) i }
+
+pub table-without : (g x : Groups) → length (g .sets) ≡ 5 → (groupsOf x ≡ []) × (x .sets ≡ g .sets) → x ≡ tableWith [] g
+table-without g x five e =
+    let c : x .count ≡ 0 = group-count x ∙ ap length (e .0) in
+    λ i. record { count = c i; sets = (e .1 ∙ sym (take-all 5 (g .sets) (omega arith))) i }
+
+-- a refusal leaves everything as it was, whatever the stores' lengths
+pub refused-left : (t : Table) (d : Done) (x : Refusal) (g : Groups) (r vs bs : List ℕ) → length (g .sets) ≡ 5 → (d .outcome ≡ O.Refused x) × (d .groups ≡ g)
+    → left d r vs bs ≡ lasting (refuse (lentState t vs bs g) x) r g
+refused-left t d x g r vs bs five e = λ i. record {
+  outcome = e .0 i;
+  groups = (e .1 ∙ table-same g five) i;
+  reply = r;
+  values = sym (join-cut (layout t .sizes) vs) i;
+  blocks = sym (join-cut (blockSizes (layout t .curves)) bs) i;
+}
+
+-- a usable board ---------------------------------------------------------------------------------------------------------------
+module _ (r : Records) (cs fs : List ℕ) (g : Groups) (vs bs : List ℕ) (w : ℕ) (h : Ready (tableOf r cs fs) (lentState (tableOf r cs fs) vs bs g) w) where
+  abbrev T : Table
+  T = tableOf r cs fs
+
+  sound : R.Sound T (lent vs bs (groupsOf g))
+  sound = R.usable-sound T (lent vs bs (groupsOf g)) (h .usable-is)
+
+  pub few-records : r .count ≤ 64
+  few-records = omega (arith, record-count r, R.variables-most (recordsOf r) (sound .variables))
+
+  pub few-groups : g .count ≤ 5
+  few-groups = omega (arith, group-count g, R.groups-most (length (recordsOf r)) (groupsOf g) (sound .groups))
+
+  -- the layout that the code lends is the table's
+  pub layout-is : length (r .sizes) ≡ 64 → lentLayout (take (r .count) (r .sizes)) w cs fs ≡ layout T
+  layout-is e = layout-lent r cs fs w (omega (arith, few-records)) (h .writable-is)
+
+  pub standing : length (r .sizes) ≡ 64 → length (g .sets) ≡ 5 → Standing (take (r .count) (r .sizes)) cs fs (take (g .count) (g .sets)) vs bs
+  standing e five =
+      let z : sizesOf (recordsOf r) ≡ take (r .count) (r .sizes) = sizes-lent r (omega (arith, few-records)) in
+      let c : length (take (r .count) (r .sizes)) ≡ r .count = simp length-take (omega (arith, few-records)) in
+      let k : length (take (g .count) (g .sets)) ≤ 5 = simp length-take (omega (arith, few-groups)) in
+      record {
+        variables = record {
+          few = omega (arith, few-records);
+          exact = ap sum (sym z) ∙ sym (sound .values);
+          small = rw (sound .values) (R.variables-small (recordsOf r) (sound .variables));
+        };
+        sizes = rw (← z) (sizes-usable (recordsOf r) (sound .variables));
+        curves = record { usable = sound .curves; exact = sound .blocks };
+        functions = sound .functions;
+        groups = k;
+      }

@@ -1,0 +1,115 @@
+-- A board store: its tests as code meets them, what a pass lets the store lean on, and what the call leaves. Assumes nothing.
+use mathlib.Core.Path.{_≡_, sym, ap, _∙_}
+use mathlib.Core.Bool.{true, false, not}
+use mathlib.Core.List.{List, [], _∷_}
+use Prim.Native.Nat.{ℕ, _≤_, _<_}
+use native.Mathlib.Omega.{arith}
+use lib.Dec.{ltb, eqb}
+use lib.ListN.{length, take, getD, length-map, List·getD-map}
+use borrow.Author.Tests.{lt-ltb, le-ltb, ltb-true, eq-eqb, ne-eqb, eqb-true, not-false}
+use Rattle.bsmp.specs.Base.{Test, first, cut, join}
+use Rattle.bsmp.specs.Board.{layout, sizesOf, usable}
+use Rattle.bsmp.specs.Message.{edited, after}
+use Rattle.bsmp.specs.Packet.{refuse, storeTests, boardStore}
+use Rattle.bsmp.specs.declared.VariableNumber.{VariableNumber}
+use Rattle.bsmp.specs.declared.Variable.{Variable}
+use Rattle.bsmp.specs.declared.Operation.the-variants.{Replace}
+use Rattle.bsmp.specs.declared.Refusal.{Refusal}
+use Rattle.bsmp.proofs.Chain.{broken-at}
+use Rattle.bsmp.proofs.Store.{join-cut}
+use Rattle.sets.specs.Members.{sizeAt}
+use Rattle.sets.specs.Promises as sets
+use Rattle.records.specs.declared.Records.{Records}
+use Rattle.records.specs.declared.Groups.{Groups}
+use Rattle.records.specs.declared.Board.{Board}
+use Rattle.records.specs.Lending.{recordsOf, groupsOf, tableOf, lent}
+use Rattle.records.specs.Checks.{boardOf}
+use Rattle.records.proofs.Lending.{noVariable, record-count, record-at, sizes-lent}
+use Rattle.records.proofs.Sound.{Sound, variables-most, variables-small}
+use Rattle.results.specs.Results.{stateOf, kept, keptOf}
+use Rattle.results.specs.declared.Stored.the-variants.{Done, Refused}
+use Rattle.results.specs.declared.Judged.{Judged}
+use Rattle.results.specs.declared.Judged.the-variants.{Pass, Refuse}
+use Rattle.results.proofs.Judging.{refused-first, passed-first, passed-test, board-told, board-sound}
+
+-- refusals 9 and 10 ------------------------------------------------------------------------------------------------------
+module _ (r : Records) where
+  size-count : length (sizesOf (recordsOf r)) ≡ r .count
+  size-count = length-map (recordsOf r) (λ v. v .size) ∙ sym (record-count r)
+
+  module _ (i : ℕ) where
+    pub variable-missing : r .count ≤ i → not (ltb i (length (sizesOf (recordsOf r)))) ≡ true
+    variable-missing h = rw (size-count, le-ltb _ _ h)
+
+    module _ (h : i < r .count) where
+      pub variable-known : not (ltb i (length (sizesOf (recordsOf r)))) ≡ false
+      variable-known = rw (size-count, lt-ltb _ _ h)
+
+      size-at : getD (sizesOf (recordsOf r)) i 0 ≡ getD (r .sizes) i 0
+      size-at = List·getD-map (λ v. v .size) (recordsOf r) i noVariable ∙ ap (λ (v : Variable). v .size) (sym (record-at r i h))
+
+      pub bytes-wrong : (n : ℕ) → (n ≡ getD (r .sizes) i 0 → ⊥) → not (eqb n (getD (sizesOf (recordsOf r)) i 0)) ≡ true
+      bytes-wrong n k = rw (size-at, ne-eqb _ _ k)
+
+      pub bytes-right : (n : ℕ) → n ≡ getD (r .sizes) i 0 → not (eqb n (getD (sizesOf (recordsOf r)) i 0)) ≡ false
+      bytes-right n k = rw (size-at, eq-eqb _ _ k)
+
+module _ (r : Records) (cs fs : List ℕ) (g : Groups) (vs bs : List ℕ) where
+  few : not (usable (tableOf r cs fs) (stateOf r cs fs g vs bs)) ≡ false → r .count ≤ 64
+  few u = rw (record-count r) (variables-most (recordsOf r) (board-sound r cs fs g vs bs u .variables))
+
+  pub size-inside : (c : Board) (i : ℕ) → c ≡ boardOf (tableOf r cs fs) (lent vs bs (groupsOf g)) → not (c .usable) ≡ false → i < r .count → i < 64
+  size-inside c i e u h = omega (arith, few (board-told r cs fs g vs bs c false e u))
+
+  -- the call ---------------------------------------------------------------------------------------------------------------
+  module _ (i : VariableNumber) (b : List ℕ) where
+    abbrev tests : List (Test Refusal)
+    tests = storeTests (usable (tableOf r cs fs) (stateOf r cs fs g vs bs)) (layout (tableOf r cs fs)) i b
+
+    module _ (j : Judged) (h : j ≡ first tests Refuse Pass) where
+      pub store-refused : (n : Refusal) → j ≡ Refuse n → kept (Refused n) vs ≡ keptOf (boardStore (tableOf r cs fs) i b (stateOf r cs fs g vs bs))
+      unfolding boardStore
+      store-refused n e =
+          ap (kept (Refused n)) (sym (join-cut (sizesOf (recordsOf r)) vs))
+          ∙ ap keptOf (refused-first _ j h (refuse (stateOf r cs fs g vs bs)) _ n e)
+
+      -- what a pass lets the store lean on
+      module _ (e : j ≡ Pass) where
+        test : (k : ℕ) → broken-at tests k ≡ false
+        test = passed-test tests j h e
+
+        store-few : r .count ≤ 64
+        store-few = few (test 0)
+
+        module _ (l : length (r .sizes) ≡ 64) where
+          pub store-lent : r .count ≤ length (r .sizes)
+          store-lent = omega (arith, store-few)
+
+          lending : sizesOf (recordsOf r) ≡ take (r .count) (r .sizes)
+          lending = sizes-lent r store-lent
+
+          pub store-counted : r .count ≡ length (take (r .count) (r .sizes))
+          store-counted = sym (size-count r) ∙ ap length lending
+
+          pub store-sound : sets.Sound (take (r .count) (r .sizes)) vs
+          store-sound =
+              let z = board-sound r cs fs g vs bs (test 0) in
+              rw (← lending) (record {
+                few = omega (arith, size-count r, store-few);
+                exact = sym (z .values);
+                small = omega (arith, z .values, variables-small (recordsOf r) (z .variables));
+              })
+
+          pub store-known : i .0 < length (take (r .count) (r .sizes))
+          store-known = rw (← lending) (ltb-true _ _ (not-false _ (test 1)))
+
+          pub store-whole : (n : ℕ) → n ≡ length b → n ≡ sizeAt (take (r .count) (r .sizes)) i
+          store-whole n q = q ∙ rw (← lending) (eqb-true _ _ (not-false _ (test 2)))
+
+          pub store-done : (vs′ : List ℕ)
+              → cut (take (r .count) (r .sizes)) vs′ ≡ edited Replace (i ∷ []) (b ∷ []) (cut (take (r .count) (r .sizes)) vs)
+              → kept Done vs′ ≡ keptOf (boardStore (tableOf r cs fs) i b (stateOf r cs fs g vs bs))
+          unfolding boardStore after
+          store-done vs′ q =
+              ap (kept Done) (sym (join-cut (sizesOf (recordsOf r)) vs′) ∙ ap join (rw (← lending) at q))
+              ∙ ap keptOf (passed-first _ j h (refuse (stateOf r cs fs g vs bs)) _ e)

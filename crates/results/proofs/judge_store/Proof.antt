@@ -1,0 +1,16 @@
+-- `judge_store` meets its contract. Assumes nothing.
+use borrow.Author.Needs.{needs}
+use Rattle.bsmp.proofs.Chain.{first-next, first-stop, first-end}
+use Rattle.results.proofs.Judging.{board-told}
+use Rattle.results.proofs.Storing.{variable-missing, variable-known, bytes-wrong, bytes-right, size-inside}
+use Rattle.results.proofs.judge_store.Statement.{statement}
+use Rattle.results.proofs.judge_store.Tie as tie
+
+pub judge-store-spec : {M : Type 1} → statement M
+judge-store-spec =
+    tie.close
+    (tie.spec (λ c κs. search needs) (λ c. search (first-stop, board-told, needs) depth 4)
+    (λ c. search (first-next, first-stop, board-told, variable-missing, needs) depth 5)
+    (λ c. search (size-inside, needs)) (λ c. search needs)
+    (λ c. search (first-next, first-stop, board-told, variable-known, bytes-wrong, needs) depth 6)
+    (λ c. search (first-next, first-end, board-told, variable-known, bytes-right, needs) depth 7))

@@ -1,0 +1,208 @@
+// Two entries of a board, with nothing asked of the caller: a function's result, and a board store.
+use bsmp::FunctionNumber;
+use bsmp::Outcome;
+use bsmp::Refusal;
+use bsmp::VariableNumber;
+use records::Groups;
+use records::Records;
+ghost use mathlib.Core.Path.{_≡_};
+ghost use mathlib.Core.Bool.{true};
+ghost use Prim.Native.Nat.{_≤_};
+ghost use lib.ListN.{length};
+ghost use Rattle.bsmp.specs.Base.{first};
+ghost use Rattle.bsmp.specs.Board.{layout, usable};
+ghost use Rattle.bsmp.specs.Packet.{ends, ranSays, resultTests, storeTests, functionResult, boardStore};
+ghost use Rattle.bsmp.specs.declared.Outcome.the-variants.{Reply};
+ghost use Rattle.records.specs.Lending.{tableOf};
+ghost use Rattle.results.specs.Results.{stateOf, ranOf, payloadOf, replied, repliedOf, kept, keptOf};
+ghost use Rattle.results.specs.declared.Judged.the-variants.{Pass, Refuse};
+
+// How a function ran. The bytes that it gave stand beside this; one that failed gives an error byte only.
+pub enum Ran {
+    Gave,
+    Failed(u8),
+}
+
+pub enum Stored {
+    Done,
+    Refused(Refusal),
+}
+
+// A call passes all its tests, or gets the first refusal.
+enum Judged {
+    Pass,
+    Refuse(Refusal),
+}
+
+impl Ran {
+    pub const OUTPUT: u8 = 0x51;
+
+    pub const ERROR: u8 = 0x53;
+}
+
+// Refusals 1, 3, 7, 8, in this order.
+fn judge_result(
+    records: Records,
+    curves: &[u32],
+    functions: &[u8],
+    groups: Groups,
+    values: &[u8],
+    blocks: &[u8],
+    function: FunctionNumber,
+    ran: Ran,
+    output: &[u8],
+    room: usize,
+) -> Judged
+    ensures { λ r. ⌜ r ≡ first (resultTests
+        (usable (tableOf records (now (curves .entry)) (now (functions .entry)))
+        (stateOf records (now (curves .entry)) (now (functions .entry)) groups (now (values .entry)) (now (blocks .entry))))
+        (layout (tableOf records (now (curves .entry)) (now (functions .entry)))) room function (ranOf ran (now (output .entry)))) Refuse Pass ⌝ }
+{
+    let board = records::usable_board(records, curves, functions, groups, values, blocks);
+    if !board.usable {
+        return Judged::Refuse(Refusal::BoardUnusable);
+    }
+    if room < 4104 {
+        return Judged::Refuse(Refusal::ReplyBufferShort);
+    }
+    if records::function_count(functions) <= function.0 {
+        return Judged::Refuse(Refusal::NoSuchFunction);
+    }
+    let declared = records::function_at(functions, function);
+    match ran {
+        Ran::Gave => {
+            if output.len() != declared.output as usize {
+                return Judged::Refuse(Refusal::OutputLength);
+            }
+            Judged::Pass
+        }
+        Ran::Failed(_) => Judged::Pass,
+    }
+}
+
+// The reply: 51 with the output, or 53 with the error byte.
+fn answer(ran: Ran, output: &[u8], reply: &mut [u8]) -> usize
+    requires { ⌜ (length (payloadOf (ranOf ran (now output))) ≤ 15) × (4104 ≤ length (now reply)) ⌝ }
+    ensures { λ r. ⌜ replied (Reply r) (now (reply .exit)) ≡ repliedOf (ends true (ranSays (ranOf ran (now (output .entry))))) (now (reply .entry)) ⌝ }
+{
+    match ran {
+        Ran::Gave => {
+            lists::copy_into(&mut reply[4..], output);
+            wire::finish(reply, Ran::OUTPUT, output.len())
+        }
+        Ran::Failed(error) => {
+            reply[4] = error;
+            wire::finish(reply, Ran::ERROR, 1)
+        }
+    }
+}
+
+// A function's result, handed in with whether an answer was due. Nothing but the reply buffer is written.
+pub fn function_result(
+    records: Records,
+    curves: &[u32],
+    functions: &[u8],
+    groups: Groups,
+    values: &[u8],
+    blocks: &[u8],
+    function: FunctionNumber,
+    due: bool,
+    ran: Ran,
+    output: &[u8],
+    reply: &mut [u8],
+) -> Outcome
+    ensures { λ r. ⌜ replied r (now (reply .exit))
+        ≡ repliedOf (functionResult (tableOf records (now (curves .entry)) (now (functions .entry))) (length (now (reply .entry))) function due
+        (ranOf ran (now (output .entry)))
+        (stateOf records (now (curves .entry)) (now (functions .entry)) groups (now (values .entry)) (now (blocks .entry)))
+        .ending) (now (reply .entry)) ⌝ }
+{
+    let room = reply.len();
+    let judged = judge_result(
+        records,
+        curves,
+        functions,
+        groups,
+        values,
+        blocks,
+        function,
+        ran,
+        output,
+        room,
+    );
+    match judged {
+        Judged::Refuse(refusal) => Outcome::Refused(refusal),
+        Judged::Pass => {
+            if due {
+                return Outcome::Reply(answer(ran, output, reply));
+            }
+            Outcome::Silence
+        }
+    }
+}
+
+// Refusals 1, 9, 10, in this order.
+fn judge_store(
+    records: Records,
+    curves: &[u32],
+    functions: &[u8],
+    groups: Groups,
+    values: &[u8],
+    blocks: &[u8],
+    variable: VariableNumber,
+    bytes: &[u8],
+) -> Judged
+    ensures { λ r. ⌜ r ≡ first (storeTests
+        (usable (tableOf records (now (curves .entry)) (now (functions .entry)))
+        (stateOf records (now (curves .entry)) (now (functions .entry)) groups (now (values .entry)) (now (blocks .entry))))
+        (layout (tableOf records (now (curves .entry)) (now (functions .entry)))) variable (now (bytes .entry))) Refuse Pass ⌝ }
+{
+    let board = records::usable_board(records, curves, functions, groups, values, blocks);
+    if !board.usable {
+        return Judged::Refuse(Refusal::BoardUnusable);
+    }
+    let i = variable.0;
+    if records.count <= i {
+        return Judged::Refuse(Refusal::NoSuchVariable);
+    }
+    if bytes.len() != records.sizes[i] as usize {
+        return Judged::Refuse(Refusal::WrongByteCount);
+    }
+    Judged::Pass
+}
+
+// The board's own store of a new value, into any variable, read-only or busy too. Only that variable's bytes change.
+pub fn board_store(
+    records: Records,
+    curves: &[u32],
+    functions: &[u8],
+    groups: Groups,
+    values: &mut [u8],
+    blocks: &[u8],
+    variable: VariableNumber,
+    bytes: &[u8],
+) -> Stored
+    ensures { λ r. ⌜ kept r (now (values .exit))
+        ≡ keptOf (boardStore (tableOf records (now (curves .entry)) (now (functions .entry))) variable (now (bytes .entry))
+        (stateOf records (now (curves .entry)) (now (functions .entry)) groups (now (values .entry)) (now (blocks .entry)))) ⌝ }
+{
+    let judged = judge_store(
+        records,
+        curves,
+        functions,
+        groups,
+        values,
+        blocks,
+        variable,
+        bytes,
+    );
+    match judged {
+        Judged::Refuse(refusal) => Stored::Refused(refusal),
+        Judged::Pass => {
+            let count = records.count;
+            let sizes = records.sizes;
+            variables::store(&sizes[..count], values, variable, bytes);
+            Stored::Done
+        }
+    }
+}
