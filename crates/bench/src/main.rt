@@ -1,0 +1,380 @@
+// The bench: board A over standard input. Records of a two-byte length and a packet; one line for each.
+use bsmp::Outcome;
+use records::Groups;
+use records::Records;
+ghost use mathlib.Core.Path.{_≡_};
+ghost use Prim.Native.Nat.{_+_, _*_, _≤_, _<_};
+ghost use lib.ListN.{length};
+
+// Board A's variables: 0 read-only, signed big endian; 1 writable, plain; 2 writable, unsigned little endian.
+fn variables() -> Records {
+    let mut writable = [0u8; 64];
+    let mut sizes = [0u8; 64];
+    let mut kinds = [0u8; 64];
+    sizes[0] = 4;
+    kinds[0] = 3;
+    writable[1] = 1;
+    sizes[1] = 1;
+    writable[2] = 1;
+    sizes[2] = 2;
+    kinds[2] = 2;
+    Records {
+        count: 3,
+        writable,
+        sizes,
+        kinds,
+    }
+}
+
+fn put_word(out: &mut [u8], at: usize, due: bool) -> usize
+    requires { ⌜ at + 10 ≤ length (now out) ⌝ }
+    ensures { λ r. ⌜ r ≤ at + 10 ⌝ }
+{
+    if due {
+        return text::put_text(out, at, b" run ");
+    }
+    text::put_text(out, at, b" runquiet ")
+}
+
+fn put_input(out: &mut [u8], at: usize, input: &[u8]) -> usize
+    requires { ⌜ (at ≤ 51) × (length (now input) ≤ 15) × (9000 ≤ length (now out)) ⌝ }
+    ensures { λ r. ⌜ r < 9000 ⌝ }
+{
+    if input.len() == 0 {
+        return text::put_text(out, at, b"-");
+    }
+    text::put_hex(out, at, input)
+}
+
+// A function to be run. The input is at place 5 of the packet, and no longer than 15 bytes; the tests keep this function free of that.
+fn put_run(
+    out: &mut [u8],
+    at: usize,
+    function: usize,
+    packet: &[u8],
+    input: usize,
+    due: bool,
+) -> usize
+    requires { ⌜ (at ≤ 20) × (9000 ≤ length (now out)) ⌝ }
+    ensures { λ r. ⌜ r < 9000 ⌝ }
+{
+    let a = put_word(out, at, due);
+    let b = text::put_number(out, a, function as u64);
+    let c = text::put_text(out, b, b" ");
+    if 15 < input {
+        return c;
+    }
+    let end = 5 + input;
+    if packet.len() < end {
+        return c;
+    }
+    put_input(out, c, &packet[5..end])
+}
+
+// A reply of n bytes; the test keeps this function free of the promise that it stands in the buffer.
+fn put_answer(out: &mut [u8], at: usize, reply: &[u8], n: usize) -> usize
+    requires { ⌜ (at ≤ 20) × (length (now reply) ≡ 4104) × (9000 ≤ length (now out)) ⌝ }
+    ensures { λ r. ⌜ r < 9000 ⌝ }
+{
+    let a = text::put_text(out, at, b" answer ");
+    if reply.len() < n {
+        return a;
+    }
+    text::put_hex(out, a, &reply[0..n])
+}
+
+// The line of an outcome, without its end; answers the index after it.
+fn line(number: u64, o: Outcome, packet: &[u8], reply: &[u8], out: &mut [u8]) -> usize
+    requires { ⌜ (length (now reply) ≡ 4104) × (9000 ≤ length (now out)) ⌝ }
+    ensures { λ r. ⌜ r < 9000 ⌝ }
+{
+    let a = text::put_number(out, 0, number);
+    match o {
+        Outcome::Reply(n) => put_answer(out, a, reply, n),
+        Outcome::Silence => text::put_text(out, a, b" silent"),
+        Outcome::Run {
+            function,
+            input,
+            due,
+        } => put_run(out, a, function.0, packet, input, due),
+        Outcome::Refused(r) => {
+            let b = text::put_text(out, a, b" refused ");
+            text::put_number(out, b, r.number() as u64)
+        }
+    }
+}
+
+// How long a packet's line is, and the group table after it.
+struct Turned {
+    size: usize,
+    groups: Groups,
+}
+
+// One packet's line at the start of out.
+fn one(
+    number: u64,
+    records: Records,
+    groups: Groups,
+    packet: &[u8],
+    values: &mut [u8],
+    blocks: &mut [u8],
+    reply: &mut [u8],
+    out: &mut [u8],
+) -> Turned
+    requires { ⌜ (length (now reply) ≡ 4104) × (9000 ≤ length (now out)) ⌝ }
+    ensures { λ r. ⌜ r .size ≤ 9000 ⌝ }
+{
+    let curves = [1u32, 4, 2];
+    let functions = [1u8, 2];
+    let d = node::packet(
+        records,
+        &curves,
+        &functions,
+        groups,
+        5,
+        0x81,
+        0,
+        values,
+        blocks,
+        packet,
+        reply,
+    );
+    let o = d.outcome;
+    let a = line(number, o, packet, reply, out);
+    let g = d.groups;
+    Turned {
+        size: text::put_byte(out, a, b'\n'),
+        groups: g,
+    }
+}
+
+// Writes out[..o] where less than a line's room is left, and answers where the next line goes.
+fn room(out: &[u8], o: usize) -> usize
+    requires { ⌜ (o ≤ length (now out)) × (9000 ≤ length (now out)) ⌝ }
+    ensures { λ r. ⌜ (r + 9000 ≤ length (now (out .entry))) × (r + 9000 < 18446744073709551616) ⌝ }
+{
+    if out.len() - o < 9000 {
+        io::write_all(1, &out[0..o]);
+        return 0;
+    }
+    o
+}
+
+// The bytes of the whole record at `at`, its two length bytes among them, or 0 where have cuts it off.
+fn whole(buf: &[u8], at: usize, have: usize) -> usize
+    requires { ⌜ (at ≤ have) × (have ≤ length (now buf)) ⌝ }
+    ensures { λ r. ⌜ at + r ≤ have ⌝ }
+{
+    if have - at < 2 {
+        return 0;
+    }
+    let size = text::two_bytes(buf[at], buf[at + 1]) + 2;
+    if have - at < size {
+        return 0;
+    }
+    size
+}
+
+// How far the records of a buffer came: the input and the output that are used up, the next record's number, the group table.
+struct Place {
+    at: usize,
+    used: usize,
+    number: u64,
+    groups: Groups,
+}
+
+// The record of `size` bytes at p.
+fn step(
+    buf: &[u8],
+    size: usize,
+    p: Place,
+    records: Records,
+    values: &mut [u8],
+    blocks: &mut [u8],
+    reply: &mut [u8],
+    out: &mut [u8],
+) -> Place
+    requires { ⌜ (2 ≤ size) × (p .at + size ≤ length (now buf)) × (p .used ≤ length (now out)) ⌝ }
+    requires { ⌜ (length (now reply) ≡ 4104) × (9000 ≤ length (now out)) ⌝ }
+    ensures { λ r. ⌜ (r .at ≡ p .at + size) × (r .used ≤ length (now (out .entry))) ⌝ }
+{
+    let from = p.at + 2;
+    let next = p.at + size;
+    let to = room(out, p.used);
+    let g = p.groups;
+    let t = one(
+        p.number,
+        records,
+        g,
+        &buf[from..next],
+        values,
+        blocks,
+        reply,
+        &mut out[to..],
+    );
+    let after = t.groups;
+    Place {
+        at: next,
+        used: to + t.size,
+        number: std::num::wrapping_add_u64(p.number, 1),
+        groups: after,
+    }
+}
+
+// Every whole record of buf[..have].
+fn drain(
+    buf: &[u8],
+    have: usize,
+    number: u64,
+    records: Records,
+    groups: Groups,
+    values: &mut [u8],
+    blocks: &mut [u8],
+    reply: &mut [u8],
+    out: &mut [u8],
+) -> Place
+    requires { ⌜ (have ≤ length (now buf)) × (length (now reply) ≡ 4104) × (9000 ≤ length (now out)) ⌝ }
+    ensures { λ r. ⌜ r .at ≤ have ⌝ }
+{
+    let mut p = Place {
+        at: 0,
+        used: 0,
+        number,
+        groups,
+    };
+    let mut size = whole(buf, 0, have);
+    while 2 <= size {
+        p = step(buf, size, p, records, values, blocks, reply, out);
+        let at = p.at;
+        size = whole(buf, at, have);
+    }
+    let used = p.used;
+    io::write_all(1, &out[0..used]);
+    p
+}
+
+// Moves buf[at..have] to the start.
+fn shift(buf: &mut [u8], at: usize, have: usize)
+    requires { ⌜ (at ≤ have) × (have ≤ length (now buf)) ⌝ }
+{
+    let n = have - at;
+    let mut i = 0;
+    while i < n {
+        buf[i] = buf[at + i];
+        i += 1;
+    }
+}
+
+fn fill(part: &mut [u8]) -> usize
+    ensures { λ r. ⌜ r ≤ length (now (part .entry)) ⌝ }
+{
+    let got = libc::read(0, part);
+    io::count(got, part)
+}
+
+fn cut(number: u64, out: &mut [u8])
+    requires { ⌜ 9000 ≤ length (now out) ⌝ }
+{
+    let a = text::put_number(out, 0, number);
+    let b = text::put_text(out, a, b" cut\n");
+    io::write_all(1, &out[0..b]);
+}
+
+struct Next {
+    go: bool,
+    have: usize,
+    number: u64,
+    groups: Groups,
+}
+
+// One read, and all that it completes.
+fn turn(
+    buf: &mut [u8],
+    have: usize,
+    number: u64,
+    records: Records,
+    groups: Groups,
+    values: &mut [u8],
+    blocks: &mut [u8],
+    reply: &mut [u8],
+    out: &mut [u8],
+) -> Next
+    requires { ⌜ (have ≤ length (now buf)) × (length (now reply) ≡ 4104) × (9000 ≤ length (now out)) ⌝ }
+    ensures { λ r. ⌜ r .have ≤ length (now (buf .entry)) ⌝ }
+{
+    let n = fill(&mut buf[have..]);
+    if n == 0 {
+        if 0 < have {
+            cut(number, out);
+        }
+        return Next {
+            go: false,
+            have: 0,
+            number,
+            groups,
+        };
+    }
+    let all = have + n;
+    let p = drain(
+        buf,
+        all,
+        number,
+        records,
+        groups,
+        values,
+        blocks,
+        reply,
+        out,
+    );
+    let at = p.at;
+    shift(buf, at, all);
+    let g = p.groups;
+    Next {
+        go: true,
+        have: all - at,
+        number: p.number,
+        groups: g,
+    }
+}
+
+// Each turn reads a byte or more, and no input has 2^64.
+fn run(buf: &mut [u8], values: &mut [u8], blocks: &mut [u8], reply: &mut [u8], out: &mut [u8])
+    requires { ⌜ (length (now reply) ≡ 4104) × (9000 ≤ length (now out)) ⌝ }
+{
+    let records = variables();
+    let mut groups = Groups {
+        count: 0,
+        sets: [0u64; 5],
+    };
+    let mut have: usize = 0;
+    let mut number: u64 = 1;
+    let mut turns = u64::MAX;
+    let mut go = true;
+    while 0 < turns && go {
+        let r = turn(
+            buf,
+            have,
+            number,
+            records,
+            groups,
+            values,
+            blocks,
+            reply,
+            out,
+        );
+        have = r.have;
+        number = r.number;
+        groups = r.groups;
+        go = r.go;
+        turns -= 1;
+    }
+}
+
+fn main() {
+    let mut buf = [0u8; 131072];
+    let mut values = [0xFFu8, 0xFF, 0xFF, 0xFD, 0x5A, 0x34, 0x12];
+    let mut blocks = [0u8; 8];
+    let mut reply = [0u8; 4104];
+    let mut out = [0u8; 131072];
+    run(&mut buf, &mut values, &mut blocks, &mut reply, &mut out);
+}
