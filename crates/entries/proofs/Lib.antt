@@ -1,0 +1,13 @@
+-- Modules that belong to no one function; the walks are made by tools/walks. Assumes nothing.
+pub mod Taken
+pub mod Same
+pub mod Unique
+pub mod Apart
+pub mod Walk
+pub mod PacketWalk
+pub mod ResultWalk
+pub mod StoreWalk
+pub mod ReadSignedWalk
+pub mod ReadUnsignedWalk
+pub mod WriteSignedWalk
+pub mod WriteUnsignedWalk

@@ -1,0 +1,215 @@
+// The entries of a node, over what a board lends: its variable records as a slice of small structs, its group table by reference.
+use bsmp::FunctionNumber;
+use bsmp::Outcome;
+use bsmp::Variable;
+use bsmp::VariableNumber;
+use readings::SignedReading;
+use readings::UnsignedReading;
+use readings::Writing;
+use records::Groups;
+use records::Records;
+use results::Ran;
+use results::Stored;
+ghost use mathlib.Core.Path.{_≡_};
+ghost use mathlib.Core.Bool.{true, false};
+ghost use Prim.Native.Nat.{_+_, _<_, _^_};
+ghost use lib.IntN.{pos};
+ghost use lib.ListN.{length};
+ghost use Rattle.bsmp.specs.Packet.{packet, functionResult, boardStore};
+ghost use Rattle.bsmp.specs.Number.{reading, writing};
+ghost use Rattle.wire.specs.Opening.{placed};
+ghost use Rattle.node.specs.Promise.{lentState, lasting, left};
+ghost use Rattle.results.specs.Results.{ranOf, replied, repliedOf, kept, keptOf};
+ghost use Rattle.readings.specs.Answers.{signedReadingOf, unsignedReadingOf, wrote, writes};
+ghost use Rattle.entries.specs.Taken.{noRecords, withRecord, takenOf};
+ghost use Rattle.entries.specs.Board.{boardTable, doneWith};
+
+fn no_records() -> Records
+    ensures { λ r. ⌜ r ≡ noRecords ⌝ }
+{
+    Records {
+        count: 0,
+        writable: [0; 64],
+        sizes: [0; 64],
+        kinds: [0; 64],
+    }
+}
+
+// One record more, at i; past the last place it is counted only.
+fn with_record(records: Records, i: usize, v: Variable) -> Records
+    requires { ⌜ i + 1 < 2 ^ 64 ⌝ }
+    ensures { λ r. ⌜ r ≡ withRecord records i v ⌝ }
+{
+    let mut next = records;
+    next.count = i + 1;
+    if i < 64 {
+        next.writable[i] = v.writable;
+        next.sizes[i] = v.size;
+        next.kinds[i] = v.kind;
+        return next;
+    }
+    next
+}
+
+// The lent records by columns, in one walk. More than 64 are counted, and so refused by the work.
+fn records_of(variables: &[Variable]) -> Records
+    ensures { λ r. ⌜ r ≡ takenOf (now (variables .entry)) ⌝ }
+{
+    let mut records = no_records();
+    let mut i: usize = 0;
+    while i < variables.len() {
+        records = with_record(records, i, variables[i]);
+        i += 1;
+    }
+    records
+}
+
+// A packet: its outcome, with the reply in the reply buffer; the stores and the group table are changed in place.
+pub fn packet(
+    variables: &[Variable],
+    curves: &[u32],
+    functions: &[u8],
+    groups: &mut Groups,
+    own: u8,
+    multicast: u8,
+    busy: u64,
+    values: &mut [u8],
+    blocks: &mut [u8],
+    request: &[u8],
+    reply: &mut [u8],
+) -> Outcome
+    ensures { λ r. ⌜ left (doneWith r (now (groups .exit))) (now (reply .exit)) (now (values .exit)) (now (blocks .exit))
+        ≡ lasting (packet (boardTable (now (variables .entry)) (now (curves .entry)) (now (functions .entry))) (placed own multicast) busy (length (now (reply .entry))) (now (request .entry))
+        (lentState (boardTable (now (variables .entry)) (now (curves .entry)) (now (functions .entry))) (now (values .entry)) (now (blocks .entry)) (now (groups .entry))))
+        (now (reply .entry)) (now (groups .entry)) ⌝ }
+{
+    let records = records_of(variables);
+    let made = *groups;
+    let done = node::packet(
+        records,
+        curves,
+        functions,
+        made,
+        own,
+        multicast,
+        busy,
+        values,
+        blocks,
+        request,
+        reply,
+    );
+    *groups = done.groups;
+    done.outcome
+}
+
+// A function's result, with whether an answer was due. Nothing but the reply buffer is written.
+pub fn function_result(
+    variables: &[Variable],
+    curves: &[u32],
+    functions: &[u8],
+    groups: &Groups,
+    values: &[u8],
+    blocks: &[u8],
+    function: FunctionNumber,
+    due: bool,
+    ran: Ran,
+    output: &[u8],
+    reply: &mut [u8],
+) -> Outcome
+    ensures { λ r. ⌜ replied r (now (reply .exit))
+        ≡ repliedOf (functionResult (boardTable (now (variables .entry)) (now (curves .entry)) (now (functions .entry))) (length (now (reply .entry))) function due
+        (ranOf ran (now (output .entry)))
+        (lentState (boardTable (now (variables .entry)) (now (curves .entry)) (now (functions .entry))) (now (values .entry)) (now (blocks .entry)) (now (groups .entry)))
+        .ending) (now (reply .entry)) ⌝ }
+{
+    let records = records_of(variables);
+    let made = *groups;
+    results::function_result(
+        records,
+        curves,
+        functions,
+        made,
+        values,
+        blocks,
+        function,
+        due,
+        ran,
+        output,
+        reply,
+    )
+}
+
+// The board's own store of a new value, into any variable.
+pub fn board_store(
+    variables: &[Variable],
+    curves: &[u32],
+    functions: &[u8],
+    groups: &Groups,
+    values: &mut [u8],
+    blocks: &[u8],
+    variable: VariableNumber,
+    bytes: &[u8],
+) -> Stored
+    ensures { λ r. ⌜ kept r (now (values .exit))
+        ≡ keptOf (boardStore (boardTable (now (variables .entry)) (now (curves .entry)) (now (functions .entry))) variable (now (bytes .entry))
+        (lentState (boardTable (now (variables .entry)) (now (curves .entry)) (now (functions .entry))) (now (values .entry)) (now (blocks .entry)) (now (groups .entry)))) ⌝ }
+{
+    let records = records_of(variables);
+    let made = *groups;
+    results::board_store(
+        records,
+        curves,
+        functions,
+        made,
+        values,
+        blocks,
+        variable,
+        bytes,
+    )
+}
+
+// Bytes to number, of a signed variable and of an unsigned one.
+pub fn read_signed(variables: &[Variable], variable: VariableNumber, bytes: &[u8]) -> SignedReading
+    ensures { λ r. ⌜ signedReadingOf r ≡ reading (now (variables .entry)) variable true (now (bytes .entry)) ⌝ }
+{
+    let records = records_of(variables);
+    readings::read_signed(records, variable, bytes)
+}
+
+pub fn read_unsigned(
+    variables: &[Variable],
+    variable: VariableNumber,
+    bytes: &[u8],
+) -> UnsignedReading
+    ensures { λ r. ⌜ unsignedReadingOf r ≡ reading (now (variables .entry)) variable false (now (bytes .entry)) ⌝ }
+{
+    let records = records_of(variables);
+    readings::read_unsigned(records, variable, bytes)
+}
+
+// Number to bytes; a refusal leaves the buffer as it was.
+pub fn write_signed(
+    variables: &[Variable],
+    variable: VariableNumber,
+    number: i64,
+    buffer: &mut [u8],
+) -> Writing
+    ensures { λ r. ⌜ wrote r (now (buffer .exit))
+        ≡ writes (writing (now (variables .entry)) variable true number (length (now (buffer .entry)))) (now (buffer .entry)) ⌝ }
+{
+    let records = records_of(variables);
+    readings::write_signed(records, variable, number, buffer)
+}
+
+pub fn write_unsigned(
+    variables: &[Variable],
+    variable: VariableNumber,
+    number: u64,
+    buffer: &mut [u8],
+) -> Writing
+    ensures { λ r. ⌜ wrote r (now (buffer .exit))
+        ≡ writes (writing (now (variables .entry)) variable false (pos number) (length (now (buffer .entry)))) (now (buffer .entry)) ⌝ }
+{
+    let records = records_of(variables);
+    readings::write_unsigned(records, variable, number, buffer)
+}
