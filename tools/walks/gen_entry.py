@@ -1,23 +1,33 @@
 #!/usr/bin/env python3
-"""Writes proofs/FN/Proof.antt of a thin entry over the shared walk THIN. Nothing here is trusted: the prover checks what is written.
-usage: gen_entry.py CRATE FN LIB::WORK THIN LAWMOD turnOf agree TABLE_FN > crates/CRATE/proofs/FN/Proof.antt
-CRATE has the entry, the walk THIN, proofs/LAWMOD with turnOf and agree, and TABLE_FN; LIB has the work."""
-import sys
-c, fn, work, thin, mod, of, law, tb = sys.argv[1:9]
-lib, work = work.split("::")
-k = lambda x: x.replace("_", "-"); PR = f"Rattle.{c}.proofs"; L = f"Rattle.{lib}.proofs"
+"""Writes proofs/FN/Proof.antt of a thin entry over its walk. Nothing here is trusted: the prover checks what is written.
+usage: gen_entry.py BOARD.json CRATE/NAME.json > crates/CRATE/proofs/FN/Proof.antt, NAME being the walk's module in CRATE.
+SHAPE's entry {fn, work LIB::FN, turn and law as LIB:part.Module.name}; BOARD's table gives the function that takes the records into a table."""
+import json, os, sys
+S = {**json.load(open(sys.argv[1])), **json.load(open(sys.argv[2]))}
+shape = os.path.abspath(sys.argv[2])
+c = os.path.basename(os.path.dirname(shape)); thin = os.path.basename(shape)[:-len(".json")]
+e = S["entry"]; fn = e["fn"]; lib, work = e["work"].split("::")
+k = lambda x: x.replace("_", "-")
+def module(u):
+    l, rest = u.split(":", 1); part, rest = rest.split(".", 1)
+    return (f"Rattle.{c}.{part}." if l == c else f"Rattle.{l}.{part}.") + rest
+def named(u): return module(u).rsplit(".", 1)
+tlib, table = S["table"]["fn"].split(":proofs.")
+(ofmod, of), (lawmod, law) = named(e["turn"]), named(e["law"])
+PR = f"Rattle.{c}.proofs"; T = module(S["table"]["fn"]); K = module(f"{lib}:proofs.{work}")
 print(f"""-- `{fn}` meets its contract: it is a thin entry over `{lib}::{work}` (`{thin}.antt`). Made by tools/walks/gen_entry.py. Assumes nothing.
 use contract.Running.{{givenOf, tables, tablesOf}}
 use denote.Triple.Spec.{{tripleOf}}
 use denote.Triple.Table.{{entered, cited}}
-use {PR}.{mod}.{{{of}, {law}}}
+use {ofmod}.{{{of}}}
+use {lawmod}.{{{law}}}
 use {PR}.{thin} as thin
-use {PR}.{tb}.Symbol as table-def
-use {PR}.{tb}.Symbol.{{name as #{c}·{k(tb)}}}
-use {PR}.{tb}.Met as table-thm
-use {L}.{work}.Symbol as work-def
-use {L}.{work}.Symbol.{{name as #{lib}·{k(work)}}}
-use {L}.{work}.Met as work-thm
+use {T}.Symbol as table-def
+use {T}.Symbol.{{name as #{tlib}·{k(table)}}}
+use {T}.Met as table-thm
+use {K}.Symbol as work-def
+use {K}.Symbol.{{name as #{lib}·{k(work)}}}
+use {K}.Met as work-thm
 use {PR}.{fn}.Key.{{name as #{c}·{k(fn)}}}
 use {PR}.{fn} as f
 use {PR}.{fn}.Statement as stated
@@ -28,6 +38,6 @@ unfolding code.routine tablesOf
 {k(fn)}-spec 𝓤 H 𝓜 𝓖 𝓡 =
     entered 𝓤 H (tripleOf 𝓤 H (𝓖 .A) f.signature (f.spec 𝓤 H (𝓖 .A) (𝓜 .mem) (𝓡 .run)))
     (tables 𝓤 H 𝓜 𝓡 code.env .C) (tables 𝓤 H 𝓜 𝓡 code.env .Λ) #{c}·{k(fn)} code.function (code.unfolded 𝓤 H 𝓜 𝓡)
-    (thin.meets {of} {law} #{c}·{k(tb)} #{lib}·{k(work)} 𝓤 H (𝓖 .A) (givenOf 𝓤 H 𝓜 𝓖) (𝓜 .mem) (𝓡 .run) (tablesOf 𝓤 H 𝓜 (tables 𝓤 H 𝓜 𝓡 code.env))
-    (cited 𝓤 H (thin.TableOf 𝓤 H (𝓖 .A) (𝓜 .mem) (𝓡 .run)) 𝓜 𝓡 code.env #{c}·{k(tb)} table-def.routine code.calls-{c}·{k(tb)} (table-thm.met 𝓤 H 𝓜 𝓖 𝓡))
-    (cited 𝓤 H (thin.Work 𝓤 H (𝓖 .A) {of}) 𝓜 𝓡 code.env #{lib}·{k(work)} work-def.routine code.calls-{lib}·{k(work)} (work-thm.met 𝓤 H 𝓜 𝓖 𝓡)))""")
+    (thin.meets {of} {law} #{tlib}·{k(table)} #{lib}·{k(work)} 𝓤 H (𝓖 .A) (givenOf 𝓤 H 𝓜 𝓖) (𝓜 .mem) (𝓡 .run) (tablesOf 𝓤 H 𝓜 (tables 𝓤 H 𝓜 𝓡 code.env))
+    (cited 𝓤 H (thin.TableOf 𝓤 H (𝓖 .A) (𝓜 .mem) (𝓡 .run)) 𝓜 𝓡 code.env #{tlib}·{k(table)} table-def.routine code.calls-{k(tlib)}·{k(table)} (table-thm.met 𝓤 H 𝓜 𝓖 𝓡))
+    (cited 𝓤 H (thin.Work 𝓤 H (𝓖 .A) {of}) 𝓜 𝓡 code.env #{lib}·{k(work)} work-def.routine code.calls-{k(lib)}·{k(work)} (work-thm.met 𝓤 H 𝓜 𝓖 𝓡)))""")

@@ -9,8 +9,9 @@
       r.out                              // with no `state`: the body ends in `work(W..)`, and its result is the entry's
   }
 
-Nothing here is trusted: the prover checks what is written. usage: gen_thin.py BOARD.json SHAPE.json > crates/CRATE/proofs/NAME.antt
-BOARD: crate; types {type: the crate that declares it}; table {fn, spec, read, table, uses}: `spec` gives the table of the lent records, `read` the records that a table says.
+Nothing here is trusted: the prover checks what is written. usage: gen_thin.py BOARD.json CRATE/NAME.json > crates/CRATE/proofs/NAME.antt
+BOARD: types {type: the crate that declares it}; table {fn, walk, spec, read, table, uses}: `spec` gives the table of the lent records, `read` the records that a table says;
+       fn, and the module walk, with the crate that has them; uses as CRATE:specs.Module.{names}.
 SHAPE: out [kind, type]; params [[name, kind, type]], kind: records | mut | shr | state | view | int | bool | struct | enum;
        work [the parameters' names in the callee's order] where it is another;
        answer {type, out [field, number], NAME [field, number] of each state} where there are states;
@@ -18,10 +19,12 @@ SHAPE: out [kind, type]; params [[name, kind, type]], kind: records | mut | shr 
             and each state and each `mut` by its name is what it is last; `entry` only where it is another.
 An entry's `Proof` gives `turnOf`, what a call comes to by the lent records and the other arguments, and `agree`, that it is the same of the records that the table says.
 """
-import sys, json, re, string
+import os, sys, json, re, string
 
 S = {**json.load(open(sys.argv[1])), **json.load(open(sys.argv[2]))}
-c = S["crate"]; SP = f"Rattle.{c}.specs"; PR = f"Rattle.{c}.proofs"
+c = os.path.basename(os.path.dirname(os.path.abspath(sys.argv[2])))
+def part_of(l, part): return f"Rattle.{c}.{part}" if l == c else f"Rattle.{l}.{part}"
+def module(u): l, rest = u.split(":", 1); part, rest = rest.split(".", 1); return part_of(l, part) + "." + rest
 def crate_of(ty): return S["types"][ty]
 W = {"u8": "w8", "u16": "w16", "u32": "w32", "u64": "w64", "usize": "w64", "i64": "w64"}
 def tup(xs): return "(" + ", (".join(xs) + ", tt" + ")" * len(xs) if xs else "tt"
@@ -162,11 +165,11 @@ use denote.Triple.Entry.{Vals, Args, onEntry}
 use denote.Triple.Spec.{Meets, tripleOf}
 use denote.Triple.Walked.{says, needs, Stays, stay-ref, stay-none, stay-none-ref, stay-none-slice, gave-slice, walkOf, AllGo, goes-ref, goes-none, goes-none-ref, goes-none-slice, goes-gave-slice, Walks, ends-at, walked, walk-meets}
 use denote.Exit.{yes}""")
-for u in t["uses"] + sd["uses"]: w("use " + u)
-for d in declared: w(f"use Rattle.{crate_of(d)}.specs.declared.{d}.{{{d}}}")
-w(f"use {PR}.Walk.{{down, span}}")
-for d, m in declared.items(): w(f"use Rattle.{crate_of(d)}.proofs.{d} as {m}"); w(f"use Rattle.{crate_of(d)}.proofs.{d}.Laws as {m}′")
-if rec: w(f"use {PR}.{t['fn']} as table-of")
+for u in t["uses"] + sd["uses"]: w("use " + module(u))
+for d in declared: w(f"use {part_of(crate_of(d), 'specs')}.declared.{d}.{{{d}}}")
+w("use " + module(t["walk"]) + ".{down, span}")
+for d, m in declared.items(): w(f"use {part_of(crate_of(d), 'proofs')}.{d} as {m}"); w(f"use {part_of(crate_of(d), 'proofs')}.{d}.Laws as {m}′")
+if rec: w("use " + module(t["fn"]) + " as table-of")
 w()
 yesses = lambda n: tup(["yes"] * n)
 w("abbrev pub signature : Signature"); w(f"signature = record {{ lifetimes = {L}; outlives = []; params = {lst([slot(p) for p in P])}; result = plain (λ _. {RO.row}) }}"); w()
@@ -350,7 +353,8 @@ exI = lst([exF[n] for n in ex0])
 w(f"  exits : (u : Val) (y : Ans) → Known u y → ent 𝓤 (⋆ 𝓤 H A ({exI})) (Post ({RO.mach(yo)}))"); w("  exits u y e =")
 lastv = lambda p: fins("y", p) if p in muts else fst[p["name"]] if p in sts else "tt"
 w(f"      qed W ({exI}) ∵ suffices ! _ (ends-at 𝓤 H A ended stayed (clauses {TO} 𝓤) W bound ({RO.mach(yo)}) {yo} {tup([lastv(p) for p in P])} {tup(['e .len-' + p['name'] if p in muts else 'tt' for p in P])}) $")
-w(f"      says ! (e .said ∙ agree {lawargs}) $")
+right = string.Template(sd.get("entry", sd["work"]).split(" ≡ ")[1]).substitute(turn="x")
+w(f"      says ! (e .said ∙ ap (λ (x : {sd['turn']}). {right}) (agree {lawargs})) $" if right != "x" else f"      says ! (e .said ∙ agree {lawargs}) $")
 cx = Cx(ex0, "      ")
 for p in reads:
     n = p["name"]; cx.move(f"obs-{n}", f"bor-{n}"); v = f"(vptr b-{n} o-{n} ∷ [])"; cx.step(f"feqI ! (List Val) {v} {v} refl"); cx.step("fjoin3 !"); cx.c[0:2] = [f"O-{n}"]

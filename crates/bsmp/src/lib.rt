@@ -12,6 +12,7 @@ pub struct CurveNumber(pub usize);
 pub struct FunctionNumber(pub usize);
 
 // A variable's record as a board lends it: writable 0 or 1, size in bytes, kind by its number.
+#[repr(C)]
 pub struct Variable {
     pub writable: u8,
     pub size: u8,

@@ -27,31 +27,8 @@ use Rattle.results.specs.declared.Stored.the-variants as S
 use Rattle.readings.specs.Answers.{Wrote, writes}
 use Rattle.entries.specs.Taken.{takenOf}
 use Rattle.entries.specs.Board.{boardTable}
+use Rattle.entries.specs.Comes.{packetOf, resultOf, storeOf, signedOf, unsignedOf, signedBytesOf, unsignedBytesOf}
 use Rattle.entries.proofs.Taken.{taken-same}
-
--- what each entry comes to, by variable records: the right sides of the promises
-abbrev pub packetOf : List Variable → (curves functions : List ℕ) → Groups → (own multicast busy : ℕ) → (values blocks request reply : List ℕ) → Lasting
-packetOf vs cs fs g own multicast busy values blocks request reply =
-    lasting (packet (boardTable vs cs fs) (placed own multicast) busy (length reply) request (lentState (boardTable vs cs fs) values blocks g)) reply g
-
-abbrev pub resultOf : List Variable → (curves functions : List ℕ) → Groups → (values blocks : List ℕ) → FunctionNumber → (due : Bool) → Ran → (output reply : List ℕ) → Replied
-resultOf vs cs fs g values blocks f due ran output reply =
-    repliedOf (functionResult (boardTable vs cs fs) (length reply) f due (ranOf ran output) (lentState (boardTable vs cs fs) values blocks g) .ending) reply
-
-abbrev pub storeOf : List Variable → (curves functions : List ℕ) → Groups → (values blocks : List ℕ) → VariableNumber → (bytes : List ℕ) → Kept
-storeOf vs cs fs g values blocks i bytes = keptOf (boardStore (boardTable vs cs fs) i bytes (lentState (boardTable vs cs fs) values blocks g))
-
-abbrev pub signedOf : List Variable → VariableNumber → (bytes : List ℕ) → Reading
-signedOf vs i bytes = reading vs i true bytes
-
-abbrev pub unsignedOf : List Variable → VariableNumber → (bytes : List ℕ) → Reading
-unsignedOf vs i bytes = reading vs i false bytes
-
-abbrev pub signedBytesOf : List Variable → VariableNumber → ℤ → (buffer : List ℕ) → Wrote
-signedBytesOf vs i z buffer = writes (writing vs i true z (length buffer)) buffer
-
-abbrev pub unsignedBytesOf : List Variable → VariableNumber → ℕ → (buffer : List ℕ) → Wrote
-unsignedBytesOf vs i n buffer = writes (writing vs i false (pos n) (length buffer)) buffer
 
 broken : (b : Bool) → (b ≡ true → ⊥) → not b ≡ true
 broken true h = absurd (h refl)

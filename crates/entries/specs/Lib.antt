@@ -1,2 +1,3 @@
 pub mod Taken
 pub mod Board
+pub mod Comes

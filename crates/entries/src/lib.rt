@@ -11,18 +11,13 @@ use records::Records;
 use results::Ran;
 use results::Stored;
 ghost use mathlib.Core.Path.{_≡_};
-ghost use mathlib.Core.Bool.{true, false};
 ghost use Prim.Native.Nat.{_+_, _<_, _^_};
-ghost use lib.IntN.{pos};
-ghost use lib.ListN.{length};
-ghost use Rattle.bsmp.specs.Packet.{packet, functionResult, boardStore};
-ghost use Rattle.bsmp.specs.Number.{reading, writing};
-ghost use Rattle.wire.specs.Opening.{placed};
-ghost use Rattle.node.specs.Promise.{lentState, lasting, left};
-ghost use Rattle.results.specs.Results.{ranOf, replied, repliedOf, kept, keptOf};
-ghost use Rattle.readings.specs.Answers.{signedReadingOf, unsignedReadingOf, wrote, writes};
+ghost use Rattle.node.specs.Promise.{left};
+ghost use Rattle.results.specs.Results.{replied, kept};
+ghost use Rattle.readings.specs.Answers.{signedReadingOf, unsignedReadingOf, wrote};
 ghost use Rattle.entries.specs.Taken.{noRecords, withRecord, takenOf};
-ghost use Rattle.entries.specs.Board.{boardTable, doneWith};
+ghost use Rattle.entries.specs.Board.{doneWith};
+ghost use Rattle.entries.specs.Comes.{packetOf, resultOf, storeOf, signedOf, unsignedOf, signedBytesOf, unsignedBytesOf};
 
 fn no_records() -> Records
     ensures { λ r. ⌜ r ≡ noRecords ⌝ }
@@ -52,7 +47,7 @@ fn with_record(records: Records, i: usize, v: Variable) -> Records
 }
 
 // The lent records by columns, in one walk. More than 64 are counted, and so refused by the work.
-fn records_of(variables: &[Variable]) -> Records
+pub fn records_of(variables: &[Variable]) -> Records
     ensures { λ r. ⌜ r ≡ takenOf (now (variables .entry)) ⌝ }
 {
     let mut records = no_records();
@@ -79,9 +74,7 @@ pub fn packet(
     reply: &mut [u8],
 ) -> Outcome
     ensures { λ r. ⌜ left (doneWith r (now (groups .exit))) (now (reply .exit)) (now (values .exit)) (now (blocks .exit))
-        ≡ lasting (packet (boardTable (now (variables .entry)) (now (curves .entry)) (now (functions .entry))) (placed own multicast) busy (length (now (reply .entry))) (now (request .entry))
-        (lentState (boardTable (now (variables .entry)) (now (curves .entry)) (now (functions .entry))) (now (values .entry)) (now (blocks .entry)) (now (groups .entry))))
-        (now (reply .entry)) (now (groups .entry)) ⌝ }
+        ≡ packetOf (now (variables .entry)) (now (curves .entry)) (now (functions .entry)) (now (groups .entry)) own multicast busy (now (values .entry)) (now (blocks .entry)) (now (request .entry)) (now (reply .entry)) ⌝ }
 {
     let records = records_of(variables);
     let made = *groups;
@@ -117,10 +110,7 @@ pub fn function_result(
     reply: &mut [u8],
 ) -> Outcome
     ensures { λ r. ⌜ replied r (now (reply .exit))
-        ≡ repliedOf (functionResult (boardTable (now (variables .entry)) (now (curves .entry)) (now (functions .entry))) (length (now (reply .entry))) function due
-        (ranOf ran (now (output .entry)))
-        (lentState (boardTable (now (variables .entry)) (now (curves .entry)) (now (functions .entry))) (now (values .entry)) (now (blocks .entry)) (now (groups .entry)))
-        .ending) (now (reply .entry)) ⌝ }
+        ≡ resultOf (now (variables .entry)) (now (curves .entry)) (now (functions .entry)) (now (groups .entry)) (now (values .entry)) (now (blocks .entry)) function due ran (now (output .entry)) (now (reply .entry)) ⌝ }
 {
     let records = records_of(variables);
     let made = *groups;
@@ -151,8 +141,7 @@ pub fn board_store(
     bytes: &[u8],
 ) -> Stored
     ensures { λ r. ⌜ kept r (now (values .exit))
-        ≡ keptOf (boardStore (boardTable (now (variables .entry)) (now (curves .entry)) (now (functions .entry))) variable (now (bytes .entry))
-        (lentState (boardTable (now (variables .entry)) (now (curves .entry)) (now (functions .entry))) (now (values .entry)) (now (blocks .entry)) (now (groups .entry)))) ⌝ }
+        ≡ storeOf (now (variables .entry)) (now (curves .entry)) (now (functions .entry)) (now (groups .entry)) (now (values .entry)) (now (blocks .entry)) variable (now (bytes .entry)) ⌝ }
 {
     let records = records_of(variables);
     let made = *groups;
@@ -170,7 +159,7 @@ pub fn board_store(
 
 // Bytes to number, of a signed variable and of an unsigned one.
 pub fn read_signed(variables: &[Variable], variable: VariableNumber, bytes: &[u8]) -> SignedReading
-    ensures { λ r. ⌜ signedReadingOf r ≡ reading (now (variables .entry)) variable true (now (bytes .entry)) ⌝ }
+    ensures { λ r. ⌜ signedReadingOf r ≡ signedOf (now (variables .entry)) variable (now (bytes .entry)) ⌝ }
 {
     let records = records_of(variables);
     readings::read_signed(records, variable, bytes)
@@ -181,7 +170,7 @@ pub fn read_unsigned(
     variable: VariableNumber,
     bytes: &[u8],
 ) -> UnsignedReading
-    ensures { λ r. ⌜ unsignedReadingOf r ≡ reading (now (variables .entry)) variable false (now (bytes .entry)) ⌝ }
+    ensures { λ r. ⌜ unsignedReadingOf r ≡ unsignedOf (now (variables .entry)) variable (now (bytes .entry)) ⌝ }
 {
     let records = records_of(variables);
     readings::read_unsigned(records, variable, bytes)
@@ -194,8 +183,7 @@ pub fn write_signed(
     number: i64,
     buffer: &mut [u8],
 ) -> Writing
-    ensures { λ r. ⌜ wrote r (now (buffer .exit))
-        ≡ writes (writing (now (variables .entry)) variable true number (length (now (buffer .entry)))) (now (buffer .entry)) ⌝ }
+    ensures { λ r. ⌜ wrote r (now (buffer .exit)) ≡ signedBytesOf (now (variables .entry)) variable number (now (buffer .entry)) ⌝ }
 {
     let records = records_of(variables);
     readings::write_signed(records, variable, number, buffer)
@@ -207,8 +195,7 @@ pub fn write_unsigned(
     number: u64,
     buffer: &mut [u8],
 ) -> Writing
-    ensures { λ r. ⌜ wrote r (now (buffer .exit))
-        ≡ writes (writing (now (variables .entry)) variable false (pos number) (length (now (buffer .entry)))) (now (buffer .entry)) ⌝ }
+    ensures { λ r. ⌜ wrote r (now (buffer .exit)) ≡ unsignedBytesOf (now (variables .entry)) variable number (now (buffer .entry)) ⌝ }
 {
     let records = records_of(variables);
     readings::write_unsigned(records, variable, number, buffer)

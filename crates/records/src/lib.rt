@@ -26,6 +26,7 @@ pub struct Records {
 }
 
 // The made groups as sets; of the places from `count` on, nothing counts.
+#[repr(C)]
 pub struct Groups {
     pub count: usize,
     pub sets: [u64; 5],

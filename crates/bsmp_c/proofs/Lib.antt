@@ -1,0 +1,10 @@
+-- Modules that belong to no one function; the walks are made by tools/walks. Assumes nothing.
+pub mod Same
+pub mod Tells
+pub mod PacketWalk
+pub mod ResultWalk
+pub mod StoreWalk
+pub mod ReadSignedWalk
+pub mod ReadUnsignedWalk
+pub mod WriteSignedWalk
+pub mod WriteUnsignedWalk

@@ -1,0 +1,40 @@
+# How programs for x86-64, which is what the library is built for, are built and run on this machine. To be sourced:
+#   need_packages        installs the Debian packages that are missing
+#   x86_cc ARGS          the C compiler;   x86_run PROGRAM ARGS   runs what it made
+#   x86_cargo ARGS       cargo, offline, for x86-64; its programs run through x86_run
+# On x86-64 itself these are gcc, the program and cargo. Elsewhere they are Debian's cross compilers, and the toolchain's emulator and C library.
+x86_here=$(cd "$(dirname "${BASH_SOURCE[0]}")" && pwd)
+x86_top=$(cd "$x86_here/../.." && pwd)
+x86_made=$x86_top/suite/target/x86
+x86_kit=$(dirname "$(dirname "$(rt doc)")")/on/$(uname -m)/toolchain
+export RATTLE_LIB=${RATTLE_LIB:-$x86_top/target/staticlib}
+
+if [ "$(uname -m)" = x86_64 ]; then
+    need_packages() { install_missing gcc valgrind; }
+    x86_cc() { gcc "$@"; }
+    x86_run() { "$@"; }
+    x86_cargo() { cargo "$1" --offline "${@:2}"; }
+    x86_bin=$x86_top/suite/target/release
+else
+    need_packages() {
+        dpkg --print-foreign-architectures | grep -qx amd64 || { dpkg --add-architecture amd64 && apt-get update -qq; }
+        install_missing rustc cargo libstd-rust-dev:amd64 gcc-x86-64-linux-gnu libc6-dev-amd64-cross
+    }
+    x86_cc() { x86_64-linux-gnu-gcc "$@"; }
+    x86_shim() {
+        [ -f "$x86_made/noattr.so" ] || { mkdir -p "$x86_made" && x86_cc -shared -fPIC -O1 "$x86_here/noattr.c" -o "$x86_made/noattr.so"; }
+    }
+    x86_run() { x86_shim && "$x86_here/run" "$@"; }
+    x86_cargo() {
+        x86_shim && RUSTC=/usr/bin/rustc RUSTDOC=/usr/bin/rustdoc CARGO_BUILD_TARGET=x86_64-unknown-linux-gnu \
+            CARGO_TARGET_X86_64_UNKNOWN_LINUX_GNU_LINKER=x86_64-linux-gnu-gcc \
+            CARGO_TARGET_X86_64_UNKNOWN_LINUX_GNU_RUNNER=$x86_here/run /usr/bin/cargo "$1" --offline "${@:2}"
+    }
+    x86_bin=$x86_top/suite/target/x86_64-unknown-linux-gnu/release
+fi
+
+install_missing() { # PACKAGES
+    local missing=() name
+    for name in "$@"; do dpkg -s "$name" >/dev/null 2>&1 || missing+=("$name"); done
+    [ ${#missing[@]} -eq 0 ] || DEBIAN_FRONTEND=noninteractive apt-get install -y -qq --no-install-recommends "${missing[@]}" >/dev/null
+}
