@@ -1,6 +1,5 @@
 -- Modules that belong to no one function; the walks are made by tools/walks. Assumes nothing.
 pub mod Same
-pub mod Tells
 pub mod PacketWalk
 pub mod ResultWalk
 pub mod StoreWalk

@@ -38,13 +38,13 @@ use denote.Exit.{yes}
 use Rattle.records.specs.Lending.{recordsOf}
 use Rattle.entries.specs.Taken.{takenOf}
 use Rattle.bsmp.specs.Number.{Reading}
-use Rattle.bsmp_c.specs.Told.{unsignedSays, readingTold}
-use Rattle.bsmp_c.specs.declared.ToldUnsigned.{ToldUnsigned}
+use Rattle.told.specs.Told.{unsignedSays, readingTold}
+use Rattle.told.specs.declared.ToldUnsigned.{ToldUnsigned}
 use Rattle.records.specs.declared.Records.{Records}
 use Rattle.bsmp.specs.declared.Variable.{Variable}
 use Rattle.entries.proofs.Walk.{down, span}
-use Rattle.bsmp_c.proofs.ToldUnsigned as M0
-use Rattle.bsmp_c.proofs.ToldUnsigned.Laws as M0′
+use Rattle.told.proofs.ToldUnsigned as M0
+use Rattle.told.proofs.ToldUnsigned.Laws as M0′
 use Rattle.records.proofs.Records as M1
 use Rattle.records.proofs.Records.Laws as M1′
 use Rattle.bsmp.proofs.Variable as M2

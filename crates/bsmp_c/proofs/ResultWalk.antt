@@ -41,14 +41,14 @@ use denote.Exit.{yes}
 use Rattle.records.specs.Lending.{recordsOf}
 use Rattle.entries.specs.Taken.{takenOf}
 use Rattle.results.specs.Results.{Replied}
-use Rattle.bsmp_c.specs.Told.{toldReplied, repliedTold}
-use Rattle.bsmp_c.specs.declared.Told.{Told}
+use Rattle.told.specs.Told.{toldReplied, repliedTold}
+use Rattle.told.specs.declared.Told.{Told}
 use Rattle.records.specs.declared.Records.{Records}
 use Rattle.bsmp.specs.declared.Variable.{Variable}
 use Rattle.records.specs.declared.Groups.{Groups}
 use Rattle.entries.proofs.Walk.{down, span}
-use Rattle.bsmp_c.proofs.Told as M0
-use Rattle.bsmp_c.proofs.Told.Laws as M0′
+use Rattle.told.proofs.Told as M0
+use Rattle.told.proofs.Told.Laws as M0′
 use Rattle.records.proofs.Records as M1
 use Rattle.records.proofs.Records.Laws as M1′
 use Rattle.bsmp.proofs.Variable as M2

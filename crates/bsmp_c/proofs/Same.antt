@@ -10,8 +10,8 @@ use Rattle.records.specs.Lending.{recordsOf}
 use Rattle.records.specs.declared.Groups.{Groups}
 use Rattle.entries.specs.Taken.{takenOf}
 use Rattle.entries.proofs.Same.{result-same, store-same, signed-same, unsigned-same, signed-bytes-same, unsigned-bytes-same}
-use Rattle.bsmp_c.specs.Told.{ranFrom}
-use Rattle.bsmp_c.specs.Comes.{resultFrom, storeFrom, signedFrom, unsignedFrom, signedBytesFrom, unsignedBytesFrom}
+use Rattle.told.specs.Told.{ranFrom}
+use Rattle.told.specs.Comes.{resultFrom, storeFrom, signedFrom, unsignedFrom, signedBytesFrom, unsignedBytesFrom}
 
 pub result-from-same : (vs : List Variable) (cs fs : List ℕ) (g : Groups) (values blocks : List ℕ) (f : ℕ) (due failed : Bool) (error : ℕ) (output reply : List ℕ)
     → resultFrom (recordsOf (takenOf vs)) cs fs g values blocks f due failed error output reply ≡ resultFrom vs cs fs g values blocks f due failed error output reply

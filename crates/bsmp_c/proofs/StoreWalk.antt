@@ -40,7 +40,7 @@ use denote.Exit.{yes}
 use Rattle.records.specs.Lending.{recordsOf}
 use Rattle.entries.specs.Taken.{takenOf}
 use Rattle.results.specs.Results.{Kept}
-use Rattle.bsmp_c.specs.Told.{numbered, keptTold}
+use Rattle.told.specs.Told.{numbered, keptTold}
 use Rattle.records.specs.declared.Records.{Records}
 use Rattle.bsmp.specs.declared.Variable.{Variable}
 use Rattle.records.specs.declared.Groups.{Groups}

@@ -41,7 +41,7 @@ use denote.Exit.{yes}
 use Rattle.records.specs.Lending.{recordsOf}
 use Rattle.entries.specs.Taken.{takenOf}
 use Rattle.readings.specs.Answers.{Wrote}
-use Rattle.bsmp_c.specs.Told.{numbered, wroteTold}
+use Rattle.told.specs.Told.{numbered, wroteTold}
 use Rattle.records.specs.declared.Records.{Records}
 use Rattle.bsmp.specs.declared.Variable.{Variable}
 use Rattle.entries.proofs.Walk.{down, span}

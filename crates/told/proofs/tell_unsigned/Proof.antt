@@ -1,8 +1,8 @@
 -- `tell_unsigned` meets its contract. Assumes nothing.
 use mathlib.Core.Path.{refl}
 use borrow.Author.Needs.{needs}
-use Rattle.bsmp_c.proofs.tell_unsigned.Statement.{statement}
-use Rattle.bsmp_c.proofs.tell_unsigned.Tie as tie
+use Rattle.told.proofs.tell_unsigned.Statement.{statement}
+use Rattle.told.proofs.tell_unsigned.Tie as tie
 
 pub tell-unsigned-spec : {M : Type 1} → statement M
 tell-unsigned-spec =

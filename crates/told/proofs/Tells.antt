@@ -20,8 +20,8 @@ use Rattle.readings.specs.declared.SignedReading.{SignedReading}
 use Rattle.readings.specs.declared.SignedReading.the-variants.{Is}
 use Rattle.readings.specs.declared.Writing.{Writing}
 use Rattle.entries.specs.Comes.{resultOf, signedBytesOf}
-use Rattle.bsmp_c.specs.Told.{toldOf, toldLeft, lastingTold, toldWith, toldReplied, repliedTold, numbered, storedNumber, keptTold, writingNumber, wroteTold, Numbers, numbers, readingTold}
-use Rattle.bsmp_c.specs.declared.Told.{Told}
+use Rattle.told.specs.Told.{toldOf, toldLeft, lastingTold, toldWith, toldReplied, repliedTold, numbered, storedNumber, keptTold, writingNumber, wroteTold, Numbers, numbers, readingTold}
+use Rattle.told.specs.declared.Told.{Told}
 
 pub packet-tells : (d : Done) (t : Told) (x : Lasting) (r vs bs : List ℕ) → left d r vs bs ≡ x → t ≡ toldOf (d .outcome) → toldLeft (toldWith t (d .groups)) r vs bs ≡ lastingTold x
 packet-tells d t x r vs bs e q = ap (λ (u : Told). toldLeft (toldWith u (d .groups)) r vs bs) q ∙ ap lastingTold e

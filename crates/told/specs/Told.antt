@@ -17,10 +17,10 @@ use Rattle.results.specs.declared.Stored.the-variants as S
 use Rattle.readings.specs.Answers.{Wrote}
 use Rattle.readings.specs.declared.Writing.{Writing}
 use Rattle.readings.specs.declared.Writing.the-variants as W
-use Rattle.bsmp_c.specs.declared.Told.{Told}
-use Rattle.bsmp_c.specs.declared.ToldDone.{ToldDone}
-use Rattle.bsmp_c.specs.declared.ToldSigned.{ToldSigned}
-use Rattle.bsmp_c.specs.declared.ToldUnsigned.{ToldUnsigned}
+use Rattle.told.specs.declared.Told.{Told}
+use Rattle.told.specs.declared.ToldDone.{ToldDone}
+use Rattle.told.specs.declared.ToldSigned.{ToldSigned}
+use Rattle.told.specs.declared.ToldUnsigned.{ToldUnsigned}
 
 -- a call's outcome; a function's input stands at place 5 of the packet (law `Input.input-at-5`)
 abbrev pub toldOf : Outcome → Told

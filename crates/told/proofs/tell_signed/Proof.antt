@@ -2,9 +2,9 @@
 use mathlib.Core.Path.{refl}
 use borrow.Author.Needs.{needs}
 use mir.Facts.{toZ-ofZ}
-use Rattle.bsmp_c.proofs.Tells.{signed-tells}
-use Rattle.bsmp_c.proofs.tell_signed.Statement.{statement}
-use Rattle.bsmp_c.proofs.tell_signed.Tie as tie
+use Rattle.told.proofs.Tells.{signed-tells}
+use Rattle.told.proofs.tell_signed.Statement.{statement}
+use Rattle.told.proofs.tell_signed.Tie as tie
 
 pub tell-signed-spec : {M : Type 1} → statement M
 tell-signed-spec =

@@ -1,8 +1,8 @@
 -- `tell` meets its contract: each ending in its numbers. Assumes nothing.
 use mathlib.Core.Path.{refl}
 use borrow.Author.Needs.{needs}
-use Rattle.bsmp_c.proofs.tell.Statement.{statement}
-use Rattle.bsmp_c.proofs.tell.Tie as tie
+use Rattle.told.proofs.tell.Statement.{statement}
+use Rattle.told.proofs.tell.Tie as tie
 
 pub tell-spec : {M : Type 1} → statement M
 tell-spec =
