@@ -1,0 +1,376 @@
+/* bsmp.h: the node of one board in the Basic Small Messages Protocol (BSMP) 2.20, for C11 and C++11.
+ *
+ * A packet and the board's state give one outcome and the next state; what comes of every input is stated once and proved.
+ * The board keeps all memory and lends it to each call. The library allocates nothing and remembers nothing.
+ * Line silence, baud rate and what a function does inside are the board's own affair.
+ *
+ * Link with libbsmp_c.a. It is x86-64 code with the System V calling convention, uses the SSE registers, and calls memcpy,
+ * memmove and memset, which the C library or the firmware supplies. Lengths are size_t, which has 64 bits there.
+ *
+ * Duties of the caller. Nothing can check them, and a call that breaks one may do anything:
+ *   - Every pointer is valid for its length, which counts elements, and is aligned as its type asks.
+ *   - All that is lent is initialised; so are buffers that are only written.
+ *   - What a call writes (every pointer without const) overlaps nothing else that is lent to it. What it only reads may overlap.
+ *   - While a call runs, nobody else writes what is lent or reads what the call writes: no interrupt, no other thread.
+ *   - A bool is 0 or 1.
+ * NULL is fine for every slice (a pointer with its length) of length 0. A group table, a board and a state are never NULL.
+ *
+ * Nothing else is asked. Wrong records, lengths, numbers and packets get a refusal by number, and a refused call changes no
+ * byte of any store, group table or buffer.
+ *
+ * Below stand the limits and codes, the structs, the seven functions of the library, and a layer of inline functions that take
+ * a board and its state as two structs. Most boards need only that layer; examples/first_packet.c is the shortest program. */
+#ifndef BSMP_H
+#define BSMP_H
+
+#include <stdbool.h>
+#include <stddef.h>
+#include <stdint.h>
+
+#ifdef _WIN32
+#error "libbsmp_c.a has the System V calling convention"
+#endif
+
+#ifdef __cplusplus
+#define BSMP_ASSERT(condition) static_assert(condition, #condition)
+extern "C" {
+#else
+#define BSMP_ASSERT(condition) _Static_assert(condition, #condition)
+#endif
+
+/* ---- Limits ---- */
+
+enum {
+    BSMP_MOST_VARIABLES = 64,
+    BSMP_MOST_VARIABLE_SIZE = 127,  /* bytes of one variable; at least 1 */
+    BSMP_MOST_VALUE_BYTES = 4096,   /* bytes of all variables together */
+    BSMP_MOST_CURVES = 8,
+    BSMP_MOST_BLOCK_SIZE = 4096,    /* at least 1 */
+    BSMP_MOST_BLOCKS = 65536,       /* of one curve; at least 1 */
+    BSMP_MOST_CURVE_BYTES = 65536,  /* bytes of all curves together */
+    BSMP_MOST_FUNCTIONS = 16,
+    BSMP_MOST_INPUT = 15,           /* bytes that go into a function */
+    BSMP_MOST_OUTPUT = 15,          /* bytes that come out */
+    BSMP_MOST_MADE_GROUPS = 5,
+    BSMP_FIRST_MADE_GROUP = 3,      /* 0, 1 and 2 always exist: all variables, the read-only ones, the writable ones */
+    BSMP_LEAST_ADDRESS = 1,
+    BSMP_MOST_ADDRESS = 31,
+    BSMP_LEAST_PACKET = 2,
+    BSMP_MOST_PACKET = 4104,
+    BSMP_REPLY_ROOM = 4104          /* the least length of a reply buffer */
+};
+
+/* ---- Codes ---- */
+
+/* Type of a variable or a curve. */
+enum { BSMP_READ_ONLY = 0, BSMP_WRITABLE = 1 };
+
+/* What a variable's bytes mean. A number has size 1, 2, 4 or 8. */
+enum bsmp_kind {
+    BSMP_PLAIN = 0,
+    BSMP_UNSIGNED_BIG = 1, /* endian */
+    BSMP_UNSIGNED_LITTLE = 2,
+    BSMP_SIGNED_BIG = 3,
+    BSMP_SIGNED_LITTLE = 4
+};
+
+/* How a call ends. */
+enum bsmp_outcome_kind { BSMP_REPLY = 0, BSMP_SILENCE = 1, BSMP_RUN = 2, BSMP_REFUSED = 3 };
+
+/* Local refusals. Where several are due, the smallest number is given, except that 11 comes before 10. */
+enum bsmp_refusal {
+    BSMP_NOT_REFUSED = 0,
+    BSMP_BOARD_UNUSABLE = 1,      /* a record, store length or group breaks the limits */
+    BSMP_BAD_ADDRESS = 2,         /* own address not 1 to 31, or the multicast byte's least bit not set */
+    BSMP_REPLY_BUFFER_SHORT = 3,  /* under 4,104 bytes */
+    BSMP_PACKET_LENGTH = 4,       /* under 2 or over 4,104 bytes */
+    BSMP_CHECKSUM = 5,            /* the bytes' sum modulo 256 isn't 0 */
+    BSMP_NOT_FOR_THIS_BOARD = 6,  /* destination is neither own nor a joined multicast */
+    BSMP_NO_SUCH_FUNCTION = 7,    /* when a function's result is handed in */
+    BSMP_OUTPUT_LENGTH = 8,       /* successful result is not the declared length */
+    BSMP_NO_SUCH_VARIABLE = 9,    /* board store or reading */
+    BSMP_WRONG_BYTE_COUNT = 10,   /* value or buffer is not the variable's size */
+    BSMP_WRONG_KIND = 11,         /* plain, or signed asked of unsigned, or the reverse */
+    BSMP_DOES_NOT_FIT = 12        /* number outside the variable's range */
+};
+
+/* Wire codes that a master finds at place 1 of a reply in which there is nothing to read. */
+enum bsmp_wire_code {
+    BSMP_WIRE_OK = 0xE0,
+    BSMP_WIRE_MALFORMED = 0xE1,   /* message under 3 bytes, or SIZE not the number of bytes that follow */
+    BSMP_WIRE_UNSUPPORTED = 0xE2, /* no such command, or no such operation */
+    BSMP_WIRE_BAD_ID = 0xE3,      /* no such variable, group, curve or function */
+    BSMP_WIRE_BAD_VALUE = 0xE4,   /* no such block, or IDs of a new group not strictly ascending */
+    BSMP_WIRE_BAD_SIZE = 0xE5,    /* payload of a wrong size */
+    BSMP_WIRE_READ_ONLY = 0xE6,   /* the thing to be written is read-only */
+    BSMP_WIRE_FULL = 0xE7,        /* five groups made already */
+    BSMP_WIRE_BUSY = 0xE8         /* a variable to be written is busy */
+};
+
+/* ---- What a board lends ---- */
+
+struct bsmp_variable {
+    uint8_t writable; /* BSMP_READ_ONLY or BSMP_WRITABLE */
+    uint8_t size;     /* 1 to 127 bytes */
+    uint8_t kind;     /* enum bsmp_kind */
+};
+
+/* An array of these is the flat list of numbers that the library takes, three to a record. */
+struct bsmp_curve {
+    uint32_t writable;
+    uint32_t block_size;
+    uint32_t blocks;
+};
+
+/* Likewise, two to a record. */
+struct bsmp_function {
+    uint8_t input;  /* 0 to 15 bytes */
+    uint8_t output; /* 0 to 15 bytes */
+};
+
+/* The groups made by message. All zeros is the table of a fresh board. Group 3 + g is sets[g], with bit n for variable n; it has
+ * a member, and declared ones only. Of the places from count on, nothing counts. Making a group writes one place and the count,
+ * removing them all the count only. */
+struct bsmp_groups {
+    size_t count;
+    uint64_t sets[BSMP_MOST_MADE_GROUPS];
+};
+
+/* ---- What comes back ---- */
+
+/* What a kind has no use for is 0. */
+struct bsmp_outcome {
+    uint8_t kind;    /* enum bsmp_outcome_kind */
+    uint8_t refusal; /* BSMP_REFUSED: enum bsmp_refusal */
+    bool due;        /* BSMP_RUN: whether an answer is due; hand it to the function's result */
+    size_t function; /* BSMP_RUN: which function */
+    size_t input;    /* BSMP_RUN: the place in the packet from which its input stands */
+    size_t length;   /* BSMP_REPLY: bytes at the start of the reply buffer.  BSMP_RUN: bytes of input */
+};
+
+/* Refusal BSMP_NOT_REFUSED and the number, or a refusal and 0. */
+struct bsmp_signed_reading {
+    uint64_t refusal;
+    int64_t number;
+};
+
+struct bsmp_unsigned_reading {
+    uint64_t refusal;
+    uint64_t number;
+};
+
+BSMP_ASSERT(sizeof(size_t) == 8);
+BSMP_ASSERT(sizeof(bool) == 1);
+BSMP_ASSERT(sizeof(struct bsmp_variable) == 3);
+BSMP_ASSERT(offsetof(struct bsmp_variable, size) == 1 && offsetof(struct bsmp_variable, kind) == 2);
+BSMP_ASSERT(sizeof(struct bsmp_curve) == 3 * sizeof(uint32_t));
+BSMP_ASSERT(offsetof(struct bsmp_curve, block_size) == 4 && offsetof(struct bsmp_curve, blocks) == 8);
+BSMP_ASSERT(sizeof(struct bsmp_function) == 2 && offsetof(struct bsmp_function, output) == 1);
+BSMP_ASSERT(sizeof(struct bsmp_groups) == 48 && offsetof(struct bsmp_groups, sets) == 8);
+BSMP_ASSERT(sizeof(struct bsmp_outcome) == 32);
+BSMP_ASSERT(offsetof(struct bsmp_outcome, refusal) == 1 && offsetof(struct bsmp_outcome, due) == 2);
+BSMP_ASSERT(offsetof(struct bsmp_outcome, function) == 8 && offsetof(struct bsmp_outcome, input) == 16);
+BSMP_ASSERT(offsetof(struct bsmp_outcome, length) == 24);
+BSMP_ASSERT(sizeof(struct bsmp_signed_reading) == 16 && offsetof(struct bsmp_signed_reading, number) == 8);
+BSMP_ASSERT(sizeof(struct bsmp_unsigned_reading) == 16 && offsetof(struct bsmp_unsigned_reading, number) == 8);
+
+/* ---- The library ----
+ *
+ * Common to the first three, which look at the whole board for refusal 1:
+ *   variables  1 to 64 records.
+ *   curves     three numbers to a record, so curve_numbers is 3 times the curves; a record that is cut off breaks the limits.
+ *   functions  two numbers to a record, likewise.
+ *   values     the variables' store: in order of number, each value starts where the one before it ends. Exactly that length.
+ *   blocks     the curves' store, likewise, block after block. */
+
+/* One packet, all its bytes from the destination to the checksum.
+ *   multicast  most significant bit is address 248, least is 255; the least is always set.
+ *   busy       bit n is set while variable n may not be written; higher bits count for nothing.
+ * Refusals, in this order: 1 to 6. They change nothing.
+ * Outcomes:
+ *   BSMP_REPLY    to be sent. Of the reply buffer, only the reply's own bytes were written. If it is a wire error, no value,
+ *                 block or group changed.
+ *   BSMP_SILENCE  a multicast packet was carried out, or was in error; nothing is to be sent.
+ *   BSMP_RUN      the board is to run a function and hand what came of it to bsmp_function_result. Nothing was written, and the
+ *                 library doesn't wait for it: other packets may come first. */
+struct bsmp_outcome bsmp_packet(const struct bsmp_variable *variables, size_t variable_count,
+                                const uint32_t *curves, size_t curve_numbers,
+                                const uint8_t *functions, size_t function_numbers,
+                                struct bsmp_groups *groups, uint8_t own, uint8_t multicast, uint64_t busy,
+                                uint8_t *values, size_t values_length, uint8_t *blocks, size_t blocks_length,
+                                const uint8_t *packet, size_t packet_length, uint8_t *reply, size_t reply_room);
+
+/* What became of a function that a packet asked for.
+ *   due     as the outcome BSMP_RUN had it.
+ *   failed  true: error is its error byte, and output counts for nothing. false: output is what it gave, and error counts
+ *           for nothing.
+ * Refusals, in this order: 1, 3, 7, 8 (8 only if it didn't fail); also if no answer is due. They change nothing.
+ * Outcomes: BSMP_REPLY if an answer is due, else BSMP_SILENCE. Nothing but the reply's own bytes is written. */
+struct bsmp_outcome bsmp_function_result(const struct bsmp_variable *variables, size_t variable_count,
+                                         const uint32_t *curves, size_t curve_numbers,
+                                         const uint8_t *functions, size_t function_numbers,
+                                         const struct bsmp_groups *groups, const uint8_t *values, size_t values_length,
+                                         const uint8_t *blocks, size_t blocks_length, size_t function, bool due,
+                                         bool failed, uint8_t error, const uint8_t *output, size_t output_length,
+                                         uint8_t *reply, size_t reply_room);
+
+/* The board stores a new value into any variable, read-only or busy too. Only those bytes change.
+ * Gives 0 or a refusal, in this order: 1, 9, 10. They change nothing. */
+uint8_t bsmp_board_store(const struct bsmp_variable *variables, size_t variable_count,
+                         const uint32_t *curves, size_t curve_numbers,
+                         const uint8_t *functions, size_t function_numbers,
+                         const struct bsmp_groups *groups, uint8_t *values, size_t values_length,
+                         const uint8_t *blocks, size_t blocks_length, size_t variable,
+                         const uint8_t *bytes, size_t byte_count);
+
+/* Bytes to number, by the variable's kind. Refusals, in this order: 1 (of the variable records only), 9, 11, 10. */
+struct bsmp_signed_reading bsmp_read_signed(const struct bsmp_variable *variables, size_t variable_count, size_t variable,
+                                            const uint8_t *bytes, size_t byte_count);
+
+struct bsmp_unsigned_reading bsmp_read_unsigned(const struct bsmp_variable *variables, size_t variable_count, size_t variable,
+                                                const uint8_t *bytes, size_t byte_count);
+
+/* Number to bytes: the only bytes that read as it. Gives 0 or a refusal, in this order: 1 (of the variable records only), 9, 11,
+ * 10, 12. They leave the buffer as it was. */
+uint8_t bsmp_write_signed(const struct bsmp_variable *variables, size_t variable_count, size_t variable, int64_t number,
+                          uint8_t *buffer, size_t buffer_length);
+
+uint8_t bsmp_write_unsigned(const struct bsmp_variable *variables, size_t variable_count, size_t variable, uint64_t number,
+                            uint8_t *buffer, size_t buffer_length);
+
+/* ---- The same by board and state ----
+ *
+ * Each function hands its structs' members to the function of the library that it names, and does nothing else. */
+
+/* What stays as it is while the board runs; it can be const, in ROM. */
+struct bsmp_board {
+    const struct bsmp_variable *variables;
+    size_t variable_count;
+    const struct bsmp_curve *curves;
+    size_t curve_count;
+    const struct bsmp_function *functions;
+    size_t function_count;
+    uint8_t own;
+    uint8_t multicast;
+};
+
+/* What changes. */
+struct bsmp_state {
+    uint8_t *values;
+    size_t values_length;
+    uint8_t *blocks;
+    size_t blocks_length;
+    struct bsmp_groups groups;
+};
+
+static inline const uint32_t *bsmp_curve_numbers(const struct bsmp_board *board)
+{
+    return (const uint32_t *)(const void *)board->curves;
+}
+
+static inline const uint8_t *bsmp_function_numbers(const struct bsmp_board *board)
+{
+    return (const uint8_t *)(const void *)board->functions;
+}
+
+/* bsmp_packet */
+static inline struct bsmp_outcome bsmp_board_packet(const struct bsmp_board *board, struct bsmp_state *state, uint64_t busy,
+                                                    const uint8_t *packet, size_t length, uint8_t *reply, size_t room)
+{
+    return bsmp_packet(board->variables, board->variable_count, bsmp_curve_numbers(board), 3 * board->curve_count,
+                       bsmp_function_numbers(board), 2 * board->function_count, &state->groups, board->own,
+                       board->multicast, busy, state->values, state->values_length, state->blocks, state->blocks_length,
+                       packet, length, reply, room);
+}
+
+/* bsmp_function_result */
+static inline struct bsmp_outcome bsmp_board_function_ended(const struct bsmp_board *board, const struct bsmp_state *state,
+                                                            size_t function, bool due, bool failed, uint8_t error,
+                                                            const uint8_t *output, size_t length, uint8_t *reply, size_t room)
+{
+    return bsmp_function_result(board->variables, board->variable_count, bsmp_curve_numbers(board), 3 * board->curve_count,
+                                bsmp_function_numbers(board), 2 * board->function_count, &state->groups, state->values,
+                                state->values_length, state->blocks, state->blocks_length, function, due, failed, error,
+                                output, length, reply, room);
+}
+
+/* bsmp_function_result of a function that succeeded */
+static inline struct bsmp_outcome bsmp_board_function_gave(const struct bsmp_board *board, const struct bsmp_state *state,
+                                                           size_t function, bool due, const uint8_t *output, size_t length,
+                                                           uint8_t *reply, size_t room)
+{
+    return bsmp_board_function_ended(board, state, function, due, false, 0, output, length, reply, room);
+}
+
+/* bsmp_function_result of a function that failed */
+static inline struct bsmp_outcome bsmp_board_function_failed(const struct bsmp_board *board, const struct bsmp_state *state,
+                                                             size_t function, bool due, uint8_t error, uint8_t *reply,
+                                                             size_t room)
+{
+    return bsmp_board_function_ended(board, state, function, due, true, error, NULL, 0, reply, room);
+}
+
+/* bsmp_board_store */
+static inline uint8_t bsmp_board_store_value(const struct bsmp_board *board, struct bsmp_state *state, size_t variable,
+                                             const uint8_t *bytes, size_t count)
+{
+    return bsmp_board_store(board->variables, board->variable_count, bsmp_curve_numbers(board), 3 * board->curve_count,
+                            bsmp_function_numbers(board), 2 * board->function_count, &state->groups, state->values,
+                            state->values_length, state->blocks, state->blocks_length, variable, bytes, count);
+}
+
+/* bsmp_read_signed */
+static inline struct bsmp_signed_reading bsmp_board_read_signed(const struct bsmp_board *board, size_t variable,
+                                                                const uint8_t *bytes, size_t count)
+{
+    return bsmp_read_signed(board->variables, board->variable_count, variable, bytes, count);
+}
+
+/* bsmp_read_unsigned */
+static inline struct bsmp_unsigned_reading bsmp_board_read_unsigned(const struct bsmp_board *board, size_t variable,
+                                                                    const uint8_t *bytes, size_t count)
+{
+    return bsmp_read_unsigned(board->variables, board->variable_count, variable, bytes, count);
+}
+
+/* bsmp_write_signed */
+static inline uint8_t bsmp_board_write_signed(const struct bsmp_board *board, size_t variable, int64_t number, uint8_t *buffer,
+                                              size_t length)
+{
+    return bsmp_write_signed(board->variables, board->variable_count, variable, number, buffer, length);
+}
+
+/* bsmp_write_unsigned */
+static inline uint8_t bsmp_board_write_unsigned(const struct bsmp_board *board, size_t variable, uint64_t number,
+                                                uint8_t *buffer, size_t length)
+{
+    return bsmp_write_unsigned(board->variables, board->variable_count, variable, number, buffer, length);
+}
+
+/* A refusal in words, for a log. */
+static inline const char *bsmp_refusal_words(uint64_t refusal)
+{
+    switch (refusal) {
+    case BSMP_NOT_REFUSED: return "not refused";
+    case BSMP_BOARD_UNUSABLE: return "board unusable";
+    case BSMP_BAD_ADDRESS: return "bad address";
+    case BSMP_REPLY_BUFFER_SHORT: return "reply buffer short";
+    case BSMP_PACKET_LENGTH: return "packet length";
+    case BSMP_CHECKSUM: return "checksum";
+    case BSMP_NOT_FOR_THIS_BOARD: return "not for this board";
+    case BSMP_NO_SUCH_FUNCTION: return "no such function";
+    case BSMP_OUTPUT_LENGTH: return "output length";
+    case BSMP_NO_SUCH_VARIABLE: return "no such variable";
+    case BSMP_WRONG_BYTE_COUNT: return "wrong byte count";
+    case BSMP_WRONG_KIND: return "wrong kind";
+    case BSMP_DOES_NOT_FIT: return "doesn't fit";
+    default: return "unknown refusal";
+    }
+}
+
+#ifdef __cplusplus
+}
+#endif
+#undef BSMP_ASSERT
+
+#endif
