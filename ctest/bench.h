@@ -1,0 +1,277 @@
+/* A bench for the C face: board A with all that it lends, calls by either way, and what came of them as text.
+ *
+ * Bytes are written in hex; "=" stands for the checksum of the bytes before it. What a call lends stands in heap blocks of
+ * exactly its length, so that a memory checker sees a byte too far. */
+#ifndef BENCH_H
+#define BENCH_H
+
+#include "board_a.h"
+
+#include <inttypes.h>
+#include <stdio.h>
+#include <stdlib.h>
+
+/* By the library's functions, or by the inline ones. */
+enum { RAW, INLINE, WAYS };
+
+/* What stands in a buffer until it is written. */
+enum { UNTOUCHED = 0xAA };
+
+/* ---- Reporting ---- */
+
+static unsigned checks, failed;
+
+static bool passes(bool good)
+{
+    checks++;
+    if (!good) failed++;
+    return good;
+}
+
+static void check(bool good, const char *name, const char *wrong)
+{
+    if (!passes(good)) printf("FAILED: %s: %s\n", name, wrong);
+}
+
+static void check_number(const char *name, uint64_t said, uint64_t expected)
+{
+    if (!passes(said == expected)) printf("FAILED: %s: %" PRIu64 " and not %" PRIu64 "\n", name, said, expected);
+}
+
+static void check_text(const char *name, int way, const char *said, const char *expected)
+{
+    if (passes(strcmp(said, expected) == 0)) return;
+    printf("FAILED: %s (%s): %s and not %s\n", name, way == RAW ? "raw" : "inline", said, expected);
+}
+
+/* ---- Bytes and text ---- */
+
+static uint8_t *heap(size_t length)
+{
+    uint8_t *block = (uint8_t *)malloc(length);
+    if (!block && length > 0) {
+        fputs("out of memory\n", stderr);
+        exit(2);
+    }
+    if (length > 0) memset(block, UNTOUCHED, length);
+    return block;
+}
+
+static size_t bytes_of(const char *text, uint8_t *bytes)
+{
+    size_t length = 0;
+    uint8_t sum = 0;
+    while (*text) {
+        char *end = NULL;
+        bytes[length] = *text == '=' ? (uint8_t)(0 - sum) : (uint8_t)strtoul(text, &end, 16);
+        text = *text == '=' ? text + 1 : end;
+        while (*text == ' ') text++;
+        sum = (uint8_t)(sum + bytes[length]);
+        length++;
+    }
+    return length;
+}
+
+struct text {
+    char text[128];
+};
+
+/* The first 32 bytes, which is more than any expected text has. */
+static struct text text_of(const uint8_t *bytes, size_t length)
+{
+    struct text text;
+    if (length > 32) length = 32;
+    text.text[0] = 0;
+    for (size_t i = 0; i < length; i++) snprintf(text.text + 3 * i, 4, "%02X ", bytes[i]);
+    if (length > 0) text.text[3 * length - 1] = 0;
+    return text;
+}
+
+/* The same text with its checksum worked out. */
+static struct text full_text(const char *given)
+{
+    struct text text;
+    uint8_t bytes[32];
+    if (strchr(given, '=')) return text_of(bytes, bytes_of(given, bytes));
+    snprintf(text.text, sizeof text.text, "%s", given);
+    return text;
+}
+
+/* ---- The bench ---- */
+
+struct bench {
+    struct bsmp_variable variables[BSMP_MOST_VARIABLES + 1];
+    struct bsmp_curve curves[BSMP_MOST_CURVES + 1];
+    struct bsmp_function functions[BSMP_MOST_FUNCTIONS + 1];
+    struct bsmp_board board;
+    struct bsmp_state state;
+    uint64_t busy;
+    uint8_t *reply;
+    size_t room;
+};
+
+static void set_values_length(struct bench *bench, size_t length)
+{
+    free(bench->state.values);
+    bench->state.values = heap(length);
+    bench->state.values_length = length;
+}
+
+static void set_blocks_length(struct bench *bench, size_t length)
+{
+    free(bench->state.blocks);
+    bench->state.blocks = heap(length);
+    bench->state.blocks_length = length;
+}
+
+static void set_room(struct bench *bench, size_t room)
+{
+    free(bench->reply);
+    bench->reply = heap(room);
+    bench->room = room;
+}
+
+/* Board A, in tables that have place for wrong ones. */
+static void start(struct bench *bench)
+{
+    memset(bench, 0, sizeof *bench);
+    memcpy(bench->variables, board_a_variables, sizeof board_a_variables);
+    memcpy(bench->curves, board_a_curves, sizeof board_a_curves);
+    memcpy(bench->functions, board_a_functions, sizeof board_a_functions);
+    bench->board = board_a;
+    bench->board.variables = bench->variables;
+    bench->board.curves = bench->curves;
+    bench->board.functions = bench->functions;
+    bench->state = board_a_fresh(heap(BOARD_A_VALUES), heap(BOARD_A_BLOCKS));
+    set_room(bench, BSMP_REPLY_ROOM);
+}
+
+static void end(struct bench *bench)
+{
+    free(bench->state.values);
+    free(bench->state.blocks);
+    free(bench->reply);
+}
+
+static uint64_t mixed(uint64_t digest, const void *bytes, size_t length)
+{
+    for (size_t i = 0; i < length; i++) digest = (digest ^ ((const uint8_t *)bytes)[i]) * UINT64_C(1099511628211);
+    return digest;
+}
+
+/* Of the stores and the group table, so that "nothing changed" is one comparison. */
+static uint64_t digest(const struct bench *bench)
+{
+    uint64_t digest = UINT64_C(14695981039346656037);
+    digest = mixed(digest, bench->state.values, bench->state.values_length);
+    digest = mixed(digest, bench->state.blocks, bench->state.blocks_length);
+    return mixed(digest, &bench->state.groups, sizeof bench->state.groups);
+}
+
+/* ---- Calls, by either way ---- */
+
+static struct bsmp_outcome packet_by(int way, struct bench *bench, const uint8_t *packet, size_t length)
+{
+    const struct bsmp_board *board = &bench->board;
+    struct bsmp_state *state = &bench->state;
+    if (way == INLINE) return bsmp_board_packet(board, state, bench->busy, packet, length, bench->reply, bench->room);
+    return bsmp_packet(bench->variables, board->variable_count, &bench->curves[0].writable, 3 * board->curve_count,
+                       &bench->functions[0].input, 2 * board->function_count, &state->groups, board->own,
+                       board->multicast, bench->busy, state->values, state->values_length, state->blocks,
+                       state->blocks_length, packet, length, bench->reply, bench->room);
+}
+
+struct result {
+    size_t function;
+    bool due;
+    bool failed;
+    uint8_t error;
+    const char *output;
+};
+
+static struct bsmp_outcome result_by(int way, struct bench *bench, const struct result *result)
+{
+    const struct bsmp_board *board = &bench->board;
+    const struct bsmp_state *state = &bench->state;
+    uint8_t output[32];
+    size_t length = bytes_of(result->output, output);
+    if (way == INLINE && result->failed)
+        return bsmp_board_function_failed(board, state, result->function, result->due, result->error, bench->reply, bench->room);
+    if (way == INLINE)
+        return bsmp_board_function_gave(board, state, result->function, result->due, output, length, bench->reply, bench->room);
+    return bsmp_function_result(bench->variables, board->variable_count, &bench->curves[0].writable,
+                                3 * board->curve_count, &bench->functions[0].input, 2 * board->function_count,
+                                &state->groups, state->values, state->values_length, state->blocks,
+                                state->blocks_length, result->function, result->due, result->failed, result->error,
+                                output, length, bench->reply, bench->room);
+}
+
+static uint8_t store_by(int way, struct bench *bench, size_t variable, const uint8_t *bytes, size_t count)
+{
+    const struct bsmp_board *board = &bench->board;
+    struct bsmp_state *state = &bench->state;
+    if (way == INLINE) return bsmp_board_store_value(board, state, variable, bytes, count);
+    return bsmp_board_store(bench->variables, board->variable_count, &bench->curves[0].writable, 3 * board->curve_count,
+                            &bench->functions[0].input, 2 * board->function_count, &state->groups, state->values,
+                            state->values_length, state->blocks, state->blocks_length, variable, bytes, count);
+}
+
+/* ---- What came of them: a reply's bytes, "silence", "run 0 with 07, due", "refused 5" ---- */
+
+static struct text said(const struct bench *bench, const struct bsmp_outcome *outcome, const uint8_t *packet)
+{
+    struct text text, input;
+    switch (outcome->kind) {
+    case BSMP_REPLY: return text_of(bench->reply, outcome->length);
+    case BSMP_SILENCE: return full_text("silence");
+    case BSMP_RUN:
+        input = text_of(packet + outcome->input, outcome->length);
+        snprintf(text.text, sizeof text.text, "run %zu with %.50s%s", outcome->function, input.text, outcome->due ? ", due" : "");
+        return text;
+    case BSMP_REFUSED: snprintf(text.text, sizeof text.text, "refused %u", outcome->refusal); return text;
+    default: return full_text("an outcome of no known kind");
+    }
+}
+
+/* The outcome is the expected one, what its kind has no use for is 0, and of the reply buffer only the reply was written. */
+static void check_outcome(const char *name, int way, const struct bench *bench, const struct bsmp_outcome *outcome,
+                          const uint8_t *packet, const char *expected)
+{
+    bool reply = outcome->kind == BSMP_REPLY, run = outcome->kind == BSMP_RUN;
+    size_t written = bench->room;
+    check_text(name, way, said(bench, outcome, packet).text, full_text(expected).text);
+    check(outcome->kind == BSMP_REFUSED || outcome->refusal == 0, name, "a refusal where none is");
+    check(run || (!outcome->due && outcome->function == 0 && outcome->input == 0), name, "a function where none is to be run");
+    check(reply || run || outcome->length == 0, name, "a length where there are no bytes");
+    while (written > 0 && bench->reply[written - 1] == UNTOUCHED) written--;
+    check(written <= (reply ? outcome->length : 0), name, "the reply buffer was written beyond the reply");
+}
+
+static void check_values(const char *name, int way, const struct bench *bench, const char *expected)
+{
+    struct text text = text_of(bench->state.values, bench->state.values_length);
+    check_text(name, way, text.text, expected ? expected : "FF FF FF FD 5A 34 12");
+}
+
+static bool is_wire_error(const struct bench *bench, const struct bsmp_outcome *outcome)
+{
+    return outcome->kind == BSMP_REPLY && bench->reply[1] > BSMP_WIRE_OK;
+}
+
+/* Sends a packet; refusals, runs and wire errors must leave stores and group table as they were. */
+static void expect_packet(struct bench *bench, int way, const char *packet_text, const char *expected)
+{
+    uint8_t bytes[32];
+    size_t length = bytes_of(packet_text, bytes);
+    uint8_t *packet = heap(length);
+    memcpy(packet, bytes, length);
+    memset(bench->reply, UNTOUCHED, bench->room);
+    uint64_t before = digest(bench);
+    struct bsmp_outcome outcome = packet_by(way, bench, packet, length);
+    check_outcome(packet_text, way, bench, &outcome, packet, expected);
+    if (outcome.kind == BSMP_REFUSED || outcome.kind == BSMP_RUN || is_wire_error(bench, &outcome))
+        check(digest(bench) == before, packet_text, "a store or the group table changed");
+    free(packet);
+}
+
+#endif

@@ -1,0 +1,33 @@
+/* Board A: the board of the settled examples. */
+#ifndef BOARD_A_H
+#define BOARD_A_H
+
+#include "bsmp.h"
+
+#include <string.h>
+
+enum { BOARD_A_VALUES = 7, BOARD_A_BLOCKS = 8 };
+
+static const struct bsmp_variable board_a_variables[] = {
+    {BSMP_READ_ONLY, 4, BSMP_SIGNED_BIG},
+    {BSMP_WRITABLE, 1, BSMP_PLAIN},
+    {BSMP_WRITABLE, 2, BSMP_UNSIGNED_LITTLE},
+};
+
+static const struct bsmp_curve board_a_curves[] = {{BSMP_WRITABLE, 4, 2}};
+
+static const struct bsmp_function board_a_functions[] = {{1, 2}};
+
+static const struct bsmp_board board_a = {board_a_variables, 3, board_a_curves, 1, board_a_functions, 1, 5, 0x81};
+
+/* Fills the two stores, of BOARD_A_VALUES and BOARD_A_BLOCKS bytes, and gives the state over them. */
+static inline struct bsmp_state board_a_fresh(uint8_t *values, uint8_t *blocks)
+{
+    static const uint8_t start[BOARD_A_VALUES] = {0xFF, 0xFF, 0xFF, 0xFD, 0x5A, 0x34, 0x12};
+    struct bsmp_state state = {values, BOARD_A_VALUES, blocks, BOARD_A_BLOCKS, {0, {0, 0, 0, 0, 0}}};
+    memcpy(values, start, BOARD_A_VALUES);
+    memset(blocks, 0, BOARD_A_BLOCKS);
+    return state;
+}
+
+#endif
