@@ -1,0 +1,358 @@
+/* How much stack each call needs, on the largest board: every command, every wire error, every refusal, every entry.
+ *
+ * Each call runs on a stack of its own that was painted before; the deepest byte that lost its paint says how far the call went.
+ * The same call is also made to a function that returns at once. What that takes is the caller's: the arguments that it pushes,
+ * and the return address. (A packet's 18 arguments and the place for the outcome are 19 words; six go in registers, 13 are
+ * pushed, which with the return address is 112 bytes.) The difference is what the library needs beyond that, with memcpy and
+ * memset. */
+#define _GNU_SOURCE
+#include "bsmp.h"
+
+#include <stdio.h>
+#include <string.h>
+#include <ucontext.h>
+
+enum { MOST_STACK = 1024 };
+
+/* ---- The board: 64 variables of 4,096 bytes, 8 curves of 65,536, 16 functions, five groups of all 64 ---- */
+
+enum { SIGNED, UNSIGNED, SHORT_SIGNED, SHORT_UNSIGNED, LAST_VARIABLE = 63, LAST_SIZE = 66 };
+enum { READ_ONLY_CURVE = 0, LAST_CURVE = 7, LAST_FUNCTION = 15 };
+
+static struct bsmp_variable variables[BSMP_MOST_VARIABLES];
+static struct bsmp_curve curves[BSMP_MOST_CURVES];
+static struct bsmp_function functions[BSMP_MOST_FUNCTIONS];
+static uint8_t values[BSMP_MOST_VALUE_BYTES];
+static uint8_t blocks[BSMP_MOST_CURVE_BYTES];
+static struct bsmp_board board = {variables, BSMP_MOST_VARIABLES, curves, BSMP_MOST_CURVES, functions, BSMP_MOST_FUNCTIONS, 5, 1};
+static struct bsmp_state state = {values, sizeof values, blocks, sizeof blocks, {0, {0}}};
+
+static uint8_t packet[BSMP_MOST_PACKET + 1];
+static size_t packet_length;
+static uint64_t busy;
+static uint8_t reply[BSMP_REPLY_ROOM];
+static size_t room;
+static uint8_t bytes[BSMP_MOST_VARIABLE_SIZE];
+
+static void make_board(void)
+{
+    for (size_t i = 0; i < BSMP_MOST_VARIABLES; i++) variables[i] = (struct bsmp_variable){BSMP_WRITABLE, 68, BSMP_PLAIN};
+    variables[SIGNED] = (struct bsmp_variable){BSMP_WRITABLE, 8, BSMP_SIGNED_BIG};
+    variables[UNSIGNED] = (struct bsmp_variable){BSMP_WRITABLE, 8, BSMP_UNSIGNED_LITTLE};
+    variables[SHORT_SIGNED] = (struct bsmp_variable){BSMP_WRITABLE, 1, BSMP_SIGNED_LITTLE};
+    variables[SHORT_UNSIGNED] = (struct bsmp_variable){BSMP_WRITABLE, 1, BSMP_UNSIGNED_BIG};
+    variables[LAST_VARIABLE].size = LAST_SIZE;
+    for (size_t i = 0; i < BSMP_MOST_CURVES; i++) curves[i] = (struct bsmp_curve){BSMP_WRITABLE, BSMP_MOST_BLOCK_SIZE, 2};
+    curves[READ_ONLY_CURVE].writable = BSMP_READ_ONLY;
+    for (size_t i = 0; i < BSMP_MOST_FUNCTIONS; i++) functions[i] = (struct bsmp_function){BSMP_MOST_INPUT, BSMP_MOST_OUTPUT};
+}
+
+/* ---- A call ---- */
+
+struct call {
+    const char *name;
+    unsigned ends;         /* in what it must end: see `ended` */
+    void (*change)(void);  /* what is unlike the largest good call; NULL for nothing */
+    uint8_t command;       /* packets: command, front, and so many bytes more */
+    uint8_t front[3];
+    size_t front_length;
+    size_t rest;
+    size_t number;         /* the others: function or variable, bytes handed in or lent, the number to be written */
+    size_t length;
+    int64_t value;
+    bool failed;
+};
+
+/* A reply is told by its command code. */
+enum { SILENT = 0x100, RUN = 0x101, DONE = 0x102, REFUSED = 0x200 };
+
+static struct bsmp_outcome outcome;
+static uint64_t refusal;
+
+static unsigned outcome_ended(void)
+{
+    switch (outcome.kind) {
+    case BSMP_REPLY: return reply[1];
+    case BSMP_SILENCE: return SILENT;
+    case BSMP_RUN: return RUN;
+    default: return REFUSED + outcome.refusal;
+    }
+}
+
+static unsigned refusal_ended(void)
+{
+    return refusal == BSMP_NOT_REFUSED ? DONE : REFUSED + (unsigned)refusal;
+}
+
+/* Where a call goes: to the library, or to `at_once`, which gives back the place for the outcome and does nothing else. */
+__asm__(".text\n"
+        ".globl at_once\n"
+        ".type at_once, @function\n"
+        "at_once:\n"
+        "    movq %rdi, %rax\n"
+        "    ret\n");
+void at_once(void);
+static void (*entry)(void);
+static const struct call *current;
+
+#define ENTRY(function) ((__typeof__(&function))entry)
+#define RECORDS \
+    variables, board.variable_count, bsmp_curve_numbers(&board), 3 * board.curve_count, bsmp_function_numbers(&board), \
+        2 * board.function_count
+#define STORES values, sizeof values, blocks, sizeof blocks
+
+static void call_packet(void)
+{
+    outcome = ENTRY(bsmp_packet)(RECORDS, &state.groups, board.own, board.multicast, busy, STORES, packet, packet_length,
+                                 reply, room);
+}
+
+static void call_function_result(void)
+{
+    outcome = ENTRY(bsmp_function_result)(RECORDS, &state.groups, STORES, current->number, true, current->failed, 1, bytes,
+                                          current->length, reply, room);
+}
+
+static void call_board_store(void)
+{
+    refusal = ENTRY(bsmp_board_store)(RECORDS, &state.groups, STORES, current->number, bytes, current->length);
+}
+
+static void call_read_signed(void)
+{
+    refusal = ENTRY(bsmp_read_signed)(variables, board.variable_count, current->number, bytes, current->length).refusal;
+}
+
+static void call_read_unsigned(void)
+{
+    refusal = ENTRY(bsmp_read_unsigned)(variables, board.variable_count, current->number, bytes, current->length).refusal;
+}
+
+static void call_write_signed(void)
+{
+    refusal = ENTRY(bsmp_write_signed)(variables, board.variable_count, current->number, current->value, bytes,
+                                       current->length);
+}
+
+static void call_write_unsigned(void)
+{
+    refusal = ENTRY(bsmp_write_unsigned)(variables, board.variable_count, current->number, (uint64_t)current->value, bytes,
+                                         current->length);
+}
+
+/* ---- What can be unlike the largest good call ---- */
+
+static void add_to_packet(size_t place, uint8_t number)
+{
+    packet[place] = (uint8_t)(packet[place] + number);
+    packet[packet_length - 1] = (uint8_t)(packet[packet_length - 1] - number);
+}
+
+static void four_groups(void) { state.groups.count = 4; }
+static void all_busy(void) { busy = UINT64_MAX; }
+static void to_all(void) { add_to_packet(0, 0xFF - 5); }
+static void size_wrong(void) { add_to_packet(3, 1); }
+static void six_groups(void) { state.groups.count = 6; }
+static void no_variables(void) { board.variable_count = 0; }
+static void no_address(void) { board.own = 0; }
+static void room_short(void) { room = BSMP_REPLY_ROOM - 1; }
+static void packet_long(void) { packet_length = sizeof packet; }
+static void sum_wrong(void) { packet[packet_length - 1]++; }
+static void to_another(void) { add_to_packet(0, 1); }
+
+/* ---- The calls ---- */
+
+#define ON(...) .front = {__VA_ARGS__}, .front_length = sizeof((uint8_t[]){__VA_ARGS__})
+#define WHOLE_BLOCK 0x41, ON(LAST_CURVE, 0, 1), .rest = BSMP_MOST_BLOCK_SIZE
+enum { GROUP = BSMP_FIRST_MADE_GROUP + BSMP_MOST_MADE_GROUPS - 1 };
+
+static const struct call packets[] = {
+    {"00 version", 0x01, .command = 0x00},
+    {"02 list of variables", 0x03, .command = 0x02},
+    {"04 list of groups", 0x05, .command = 0x04},
+    {"06 group", 0x07, NULL, 0x06, ON(GROUP)},
+    {"08 list of curves", 0x09, .command = 0x08},
+    {"0C list of functions", 0x0D, .command = 0x0C},
+    {"10 read variable", 0x11, NULL, 0x10, ON(LAST_VARIABLE)},
+    {"12 read group", 0x13, NULL, 0x12, ON(GROUP)},
+    {"20 write variable", 0xE0, NULL, 0x20, ON(LAST_VARIABLE), .rest = LAST_SIZE},
+    {"22 write group", 0xE0, NULL, 0x22, ON(GROUP), .rest = BSMP_MOST_VALUE_BYTES},
+    {"24 mask variable", 0xE0, NULL, 0x24, ON(LAST_VARIABLE, 'X'), .rest = LAST_SIZE},
+    {"26 mask group", 0xE0, NULL, 0x26, ON(GROUP, 'X'), .rest = BSMP_MOST_VALUE_BYTES},
+    {"28 write and read", 0x11, NULL, 0x28, ON(LAST_VARIABLE, LAST_VARIABLE - 1), .rest = LAST_SIZE},
+    {"30 make group", 0xE0, four_groups, 0x30, .rest = BSMP_MOST_VARIABLES},
+    {"32 remove groups", 0xE0, .command = 0x32},
+    {"40 read block", 0x41, NULL, 0x40, ON(LAST_CURVE, 0, 1)},
+    {"41 write block", 0xE0, NULL, WHOLE_BLOCK},
+    {"50 run function", RUN, NULL, 0x50, ON(LAST_FUNCTION), .rest = BSMP_MOST_INPUT},
+    {"22 to all", SILENT, to_all, 0x22, ON(GROUP), .rest = BSMP_MOST_VALUE_BYTES},
+    {"error E1", 0xE1, size_wrong, 0x22, ON(GROUP), .rest = BSMP_MOST_VALUE_BYTES},
+    {"error E2", 0xE2, NULL, 0x26, ON(GROUP, 'Y'), .rest = BSMP_MOST_VALUE_BYTES},
+    {"error E3", 0xE3, NULL, 0x22, ON(GROUP + 1), .rest = BSMP_MOST_VALUE_BYTES},
+    {"error E4", 0xE4, NULL, 0x41, ON(LAST_CURVE, 0, 2), .rest = BSMP_MOST_BLOCK_SIZE},
+    {"error E5", 0xE5, NULL, 0x26, ON(GROUP, 'X'), .rest = BSMP_MOST_VALUE_BYTES - 1},
+    {"error E6", 0xE6, NULL, 0x41, ON(READ_ONLY_CURVE, 0, 1), .rest = BSMP_MOST_BLOCK_SIZE},
+    {"error E7", 0xE7, NULL, 0x30, .rest = BSMP_MOST_VARIABLES},
+    {"error E8", 0xE8, all_busy, 0x26, ON(GROUP, 'X'), .rest = BSMP_MOST_VALUE_BYTES},
+    {"refusal 1", REFUSED + 1, six_groups, WHOLE_BLOCK},
+    {"refusal 2", REFUSED + 2, no_address, WHOLE_BLOCK},
+    {"refusal 3", REFUSED + 3, room_short, WHOLE_BLOCK},
+    {"refusal 4", REFUSED + 4, packet_long, WHOLE_BLOCK},
+    {"refusal 5", REFUSED + 5, sum_wrong, WHOLE_BLOCK},
+    {"refusal 6", REFUSED + 6, to_another, WHOLE_BLOCK},
+};
+
+static const struct call results[] = {
+    {"reply 51", 0x51, .number = LAST_FUNCTION, .length = BSMP_MOST_OUTPUT},
+    {"reply 53", 0x53, .number = LAST_FUNCTION, .failed = true},
+    {"refusal 1", REFUSED + 1, six_groups, .number = LAST_FUNCTION, .length = BSMP_MOST_OUTPUT},
+    {"refusal 3", REFUSED + 3, room_short, .number = LAST_FUNCTION, .length = BSMP_MOST_OUTPUT},
+    {"refusal 7", REFUSED + 7, .number = LAST_FUNCTION + 1, .length = BSMP_MOST_OUTPUT},
+    {"refusal 8", REFUSED + 8, .number = LAST_FUNCTION, .length = BSMP_MOST_OUTPUT - 1},
+};
+
+static const struct call stores[] = {
+    {"done", DONE, .number = LAST_VARIABLE, .length = LAST_SIZE},
+    {"refusal 1", REFUSED + 1, six_groups, .number = LAST_VARIABLE, .length = LAST_SIZE},
+    {"refusal 9", REFUSED + 9, .number = LAST_VARIABLE + 1, .length = LAST_SIZE},
+    {"refusal 10", REFUSED + 10, .number = LAST_VARIABLE, .length = LAST_SIZE + 1},
+};
+
+#define READINGS(own, other) \
+    {"done", DONE, .number = own, .length = 8}, {"refusal 1", REFUSED + 1, no_variables, .number = own, .length = 8}, \
+        {"refusal 9", REFUSED + 9, .number = LAST_VARIABLE + 1, .length = 8}, \
+        {"refusal 10", REFUSED + 10, .number = own, .length = 7}, {"refusal 11", REFUSED + 11, .number = other, .length = 8}
+
+static const struct call signed_readings[] = {READINGS(SIGNED, UNSIGNED)};
+static const struct call unsigned_readings[] = {READINGS(UNSIGNED, SIGNED)};
+static const struct call signed_writings[] = {
+    READINGS(SIGNED, UNSIGNED),
+    {"refusal 12", REFUSED + 12, .number = SHORT_SIGNED, .length = 1, .value = 128},
+};
+static const struct call unsigned_writings[] = {
+    READINGS(UNSIGNED, SIGNED),
+    {"refusal 12", REFUSED + 12, .number = SHORT_UNSIGNED, .length = 1, .value = 256},
+};
+
+/* ---- Painting ---- */
+
+static uint8_t area[64 * 1024] __attribute__((aligned(64)));
+static ucontext_t back, there;
+
+static void prepare(const struct call *call)
+{
+    current = call;
+    board.variable_count = BSMP_MOST_VARIABLES;
+    board.own = 5;
+    state.groups.count = BSMP_MOST_MADE_GROUPS;
+    memset(state.groups.sets, 0xFF, sizeof state.groups.sets);
+    busy = 0;
+    room = sizeof reply;
+
+    size_t size = call->front_length + call->rest;
+    uint8_t sum = 0;
+    packet_length = size + 5;
+    packet[0] = board.own;
+    packet[1] = call->command;
+    packet[2] = (uint8_t)(size >> 8);
+    packet[3] = (uint8_t)size;
+    memcpy(packet + 4, call->front, call->front_length);
+    for (size_t i = 0; i < call->rest; i++) packet[4 + call->front_length + i] = (uint8_t)i;
+    for (size_t i = 0; i + 1 < packet_length; i++) sum = (uint8_t)(sum + packet[i]);
+    packet[packet_length - 1] = (uint8_t)(0 - sum);
+    if (call->change) call->change();
+}
+
+static size_t touched(void (*make)(void), uint8_t paint)
+{
+    size_t untouched = 0;
+    memset(area, paint, sizeof area);
+    getcontext(&there);
+    there.uc_stack.ss_sp = area;
+    there.uc_stack.ss_size = sizeof area;
+    there.uc_link = &back;
+    makecontext(&there, make, 0);
+    swapcontext(&back, &there);
+    while (untouched < sizeof area && area[untouched] == paint) untouched++;
+    return sizeof area - untouched;
+}
+
+/* A byte that is written with the paint's own colour is not seen, so there are two colours. */
+static size_t deepest(void (*make)(void), const struct call *call, void (*function)(void))
+{
+    size_t most = 0;
+    entry = function;
+    for (int paint = 0x5A; paint <= 0xA5; paint += 0xA5 - 0x5A) {
+        prepare(call);
+        size_t depth = touched(make, (uint8_t)paint);
+        if (depth > most) most = depth;
+    }
+    return most;
+}
+
+/* ---- Figures ---- */
+
+struct kind {
+    const char *name;
+    void (*make)(void);
+    void (*function)(void);
+    unsigned (*ended)(void);
+    const struct call *calls;
+    size_t count;
+};
+
+#define CALLS(array) array, sizeof array / sizeof array[0]
+static const struct kind kinds[] = {
+    {"bsmp_packet", call_packet, (void (*)(void))bsmp_packet, outcome_ended, CALLS(packets)},
+    {"bsmp_function_result", call_function_result, (void (*)(void))bsmp_function_result, outcome_ended, CALLS(results)},
+    {"bsmp_board_store", call_board_store, (void (*)(void))bsmp_board_store, refusal_ended, CALLS(stores)},
+    {"bsmp_read_signed", call_read_signed, (void (*)(void))bsmp_read_signed, refusal_ended, CALLS(signed_readings)},
+    {"bsmp_read_unsigned", call_read_unsigned, (void (*)(void))bsmp_read_unsigned, refusal_ended, CALLS(unsigned_readings)},
+    {"bsmp_write_signed", call_write_signed, (void (*)(void))bsmp_write_signed, refusal_ended, CALLS(signed_writings)},
+    {"bsmp_write_unsigned", call_write_unsigned, (void (*)(void))bsmp_write_unsigned, refusal_ended, CALLS(unsigned_writings)},
+};
+
+static int failures;
+
+static size_t need(const struct kind *kind, const struct call *call)
+{
+    size_t callers = deepest(kind->make, call, at_once);
+    deepest(kind->make, call, kind->function); /* the first call may have to find memcpy, which is the loader's work */
+    size_t whole = deepest(kind->make, call, kind->function);
+    unsigned ended = kind->ended();
+    if (ended != call->ends) {
+        printf("FAILED: %s, %s: ended in %03X and not in %03X\n", kind->name, call->name, ended, call->ends);
+        failures++;
+    }
+    return whole - callers;
+}
+
+static size_t worst_of(const struct kind *kind)
+{
+    size_t worst = 0;
+    for (size_t i = 0; i < kind->count; i++) {
+        size_t bytes_needed = need(kind, &kind->calls[i]);
+        printf("%5zu  %s, %s\n", bytes_needed, kind->name, kind->calls[i].name);
+        if (bytes_needed > worst) worst = bytes_needed;
+    }
+    return worst;
+}
+
+int main(void)
+{
+    size_t worst[sizeof kinds / sizeof kinds[0]];
+    size_t most = 0;
+    make_board();
+    for (size_t i = 0; i < sizeof kinds / sizeof kinds[0]; i++) worst[i] = worst_of(&kinds[i]);
+    puts("Bytes of stack at most, beyond the arguments and the return address:");
+    for (size_t i = 0; i < sizeof kinds / sizeof kinds[0]; i++) {
+        printf("%5zu  %s\n", worst[i], kinds[i].name);
+        if (worst[i] > most) most = worst[i];
+    }
+    if (most > MOST_STACK) {
+        printf("FAILED: a call needs %zu bytes of stack; the limit is %d\n", most, MOST_STACK);
+        failures++;
+    }
+    printf("%zu bytes of stack in the worst case, %d failed\n", most, failures);
+    return failures != 0;
+}
