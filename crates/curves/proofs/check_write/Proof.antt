@@ -12,16 +12,10 @@ unfolding check line
 check-write-spec =
     tie.close
     (tie.spec
-    (λ c. search (first-stop, lt-ltb, needs) depth 4)
-    (λ c κs. search needs)
-    (λ c κs. search needs)
-    (λ c. search (first-next, first-stop, le-ltb, curve-missing, needs) depth 5)
-    (λ c κs. search needs)
-    (λ c κs. search needs)
-    (λ c. search (first-next, first-stop, le-ltb, curve-known, block-told, needs) depth 6)
-    (λ c. search needs)
-    (λ c. search (first-next, first-stop, le-ltb, curve-known, block-told, rest-none, needs) depth 7)
-    (λ c. search needs)
+    (λ c. search (first-stop, lt-ltb, needs) depth 4) (λ c κs. search needs) (λ c κs. search needs)
+    (λ c. search (first-next, first-stop, le-ltb, curve-missing, needs) depth 5) (λ c κs. search needs) (λ c κs. search needs)
+    (λ c. search (first-next, first-stop, le-ltb, curve-known, block-told, needs) depth 6) (λ c. search needs)
+    (λ c. search (first-next, first-stop, le-ltb, curve-known, block-told, rest-none, needs) depth 7) (λ c. search needs)
     (λ c. search (first-next, first-stop, le-ltb, curve-known, block-told, rest-long, needs) depth 7)
     (λ c. search (first-next, first-stop, le-ltb, curve-known, block-told, rest-fits, curve-fixed, needs) depth 8)
     (λ c. search (first-next, first-end, le-ltb, curve-known, block-told, rest-fits, curve-writable, needs) depth 9))

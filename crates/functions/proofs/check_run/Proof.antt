@@ -12,12 +12,7 @@ unfolding check line
 check-run-spec =
     tie.close
     (tie.spec
-    (λ c. search (first-stop, lt-ltb, needs) depth 4)
-    (λ c κs. search needs)
-    (λ c κs. search needs)
-    (λ c. search (first-next, first-stop, le-ltb, function-missing, needs) depth 5)
-    (λ c κs. search needs)
-    (λ c. search needs)
-    (λ c. search needs)
+    (λ c. search (first-stop, lt-ltb, needs) depth 4) (λ c κs. search needs) (λ c κs. search needs)
+    (λ c. search (first-next, first-stop, le-ltb, function-missing, needs) depth 5) (λ c κs. search needs) (λ c. search needs) (λ c. search needs)
     (λ c. search (first-next, first-stop, le-ltb, function-known, input-other, needs) depth 6)
     (λ c. search (first-next, first-end, le-ltb, function-known, input-whole, needs) depth 7))
