@@ -1,16 +1,17 @@
--- What a command that passed changes in the stores, from what its change says of the part that it writes. Assumes nothing.
-use mathlib.Core.Path.{_≡_, refl, ap, _∙_}
-use mathlib.Core.List.{List, [], _∷_, map}
-use Prim.Native.Nat.{ℕ, _≤_, _<_}
+-- What a command that passed changes in the stores and the made groups, from what its change says of the part that it writes. Assumes nothing.
+use mathlib.Core.Path.{_≡_, refl, ap}
+use mathlib.Core.List.{List, [], _∷_, _++_, map}
+use Prim.Native.Nat.{ℕ, _<_}
 use lib.ListN.{length, drop, set}
 use Rattle.bsmp.specs.Base.{cut, byteAt}
 use Rattle.bsmp.specs.Codes.{operationOf}
 use Rattle.bsmp.specs.Board.{Layout, sizeOf, members}
-use Rattle.bsmp.specs.Message.{variableAt, groupAt, line, edited, filled, after}
+use Rattle.bsmp.specs.Message.{nothing, variableAt, groupAt, line, edited, filled, after}
 use Rattle.bsmp.specs.declared.Operation.{Operation}
 use Rattle.bsmp.specs.declared.Operation.the-variants.{Replace}
 use Rattle.bsmp.specs.declared.Command.{Command}
-use Rattle.bsmp.specs.declared.Command.the-variants.{WriteVariable, WriteGroup, MaskVariable, MaskGroup, WriteRead, WriteBlock}
+use Rattle.bsmp.specs.declared.Command.the-variants.{WriteVariable, WriteGroup, MaskVariable, MaskGroup, WriteRead, MakeGroup, RemoveGroups, WriteBlock}
+use Rattle.sets.specs.Promises.{Below, Named}
 use Rattle.parts.specs.Parts.{variablesOnly, Passed}
 use Rattle.records.specs.Lending.{curvesOf}
 use Rattle.variables.specs.Fits.{OneFits}
@@ -19,7 +20,8 @@ use Rattle.groups.specs.Promises.{GroupFits}
 use Rattle.groups.proofs.Pass as groups
 use Rattle.curves.specs.Fits.{BlockFits, blocksIn, placeOf, namedBlock}
 use Rattle.curves.proofs.Passes as curves
-use Rattle.serve.specs.Serve.{lentLayout, Stored, Makes}
+use Rattle.serve.specs.Serve.{lentLayout, Standing, Stored}
+use Rattle.serve.specs.declared.Regroup.the-variants.{Keep, Make, Remove}
 
 module _ (ns : List ℕ) (w : ℕ) (cs fs gs p : List ℕ) (k : Command) where
   abbrev L : Layout
@@ -53,43 +55,57 @@ module _ (ns : List ℕ) (w : ℕ) (cs fs gs p : List ℕ) (k : Command) where
   pub block-needs : k ≡ WriteBlock → Passed L gs p k → BlockFits (curvesOf cs) p
   block-needs e h = curves.write-fits ns w _ _ gs p (as-command WriteBlock e h)
 
-  -- what the stores then hold
+  pub make-needs : (vs bs : List ℕ) → Standing ns cs fs gs vs bs → k ≡ MakeGroup → Passed L gs p k → Below 64 p
+  make-needs vs bs s e h = groups.make-below ns w _ _ gs p (as-command MakeGroup e h) (s .variables .few)
+
+  -- what the stores and the made groups then are
   module _ (vs bs vs′ bs′ : List ℕ) where
     pub write-stored : k ≡ WriteVariable → cut ns vs′ ≡ edited Replace (variableAt p 0 ∷ []) (drop 1 p ∷ []) (cut ns vs)
-        → Stored L (line L gs p k .change) gs vs bs vs′ bs
+        → Stored L (line L gs p k .change) gs vs bs Keep vs′ bs
     unfolding line after
-    write-stored e h = rw e (record { values = h; blocks = refl })
+    write-stored e h = rw e (record { values = h; blocks = refl; groups = refl })
 
     pub mask-stored : (op : Operation) → k ≡ MaskVariable → op ≡ operationOf (byteAt p 1)
-        → cut ns vs′ ≡ edited op (variableAt p 0 ∷ []) (drop 2 p ∷ []) (cut ns vs) → Stored L (line L gs p k .change) gs vs bs vs′ bs
+        → cut ns vs′ ≡ edited op (variableAt p 0 ∷ []) (drop 2 p ∷ []) (cut ns vs) → Stored L (line L gs p k .change) gs vs bs Keep vs′ bs
     unfolding line after
-    mask-stored op e o h = rw e (record { values = rw o at h; blocks = refl })
+    mask-stored op e o h = rw e (record { values = rw o at h; blocks = refl; groups = refl })
 
     pub write-read-stored : k ≡ WriteRead → cut ns vs′ ≡ edited Replace (variableAt p 0 ∷ []) (drop 2 p ∷ []) (cut ns vs)
-        → Stored L (line L gs p k .change) gs vs bs vs′ bs
+        → Stored L (line L gs p k .change) gs vs bs Keep vs′ bs
     unfolding line after
-    write-read-stored e h = rw e (record { values = h; blocks = refl })
+    write-read-stored e h = rw e (record { values = h; blocks = refl; groups = refl })
 
     abbrev groupEdited : Operation → ℕ → List (List ℕ)
     groupEdited op n =
         edited op (members (variablesOnly ns w) gs (groupAt p 0))
         (cut (map (sizeOf (variablesOnly ns w)) (members (variablesOnly ns w) gs (groupAt p 0))) (drop n p)) (cut ns vs)
 
-    pub group-write-stored : k ≡ WriteGroup → cut ns vs′ ≡ groupEdited Replace 1 → Stored L (line L gs p k .change) gs vs bs vs′ bs
+    pub group-write-stored : k ≡ WriteGroup → cut ns vs′ ≡ groupEdited Replace 1 → Stored L (line L gs p k .change) gs vs bs Keep vs′ bs
     unfolding line after members
-    group-write-stored e h = rw e (record { values = h; blocks = refl })
+    group-write-stored e h = rw e (record { values = h; blocks = refl; groups = refl })
 
     pub group-mask-stored : (op : Operation) → k ≡ MaskGroup → op ≡ operationOf (byteAt p 1) → cut ns vs′ ≡ groupEdited op 2
-        → Stored L (line L gs p k .change) gs vs bs vs′ bs
+        → Stored L (line L gs p k .change) gs vs bs Keep vs′ bs
     unfolding line after members
-    group-mask-stored op e o h = rw e (record { values = rw o at h; blocks = refl })
+    group-mask-stored op e o h = rw e (record { values = rw o at h; blocks = refl; groups = refl })
 
     pub block-stored : k ≡ WriteBlock
         → blocksIn (curvesOf cs) bs′ ≡ set (blocksIn (curvesOf cs) bs) (placeOf (curvesOf cs) p) (filled (drop 3 p) (namedBlock (curvesOf cs) bs p))
-        → Stored L (line L gs p k .change) gs vs bs vs bs′
+        → Stored L (line L gs p k .change) gs vs bs Keep vs bs′
     unfolding line after
-    block-stored e h = rw e (record { values = refl; blocks = h })
+    block-stored e h = rw e (record { values = refl; blocks = h; groups = refl })
 
--- a request for a new group names variables below 64
-pub makes : (ns : List ℕ) (w : ℕ) (cs fs gs p : List ℕ) (k : Command) → length ns ≤ 64 → Passed (lentLayout ns w cs fs) gs p k → Makes k p
-makes ns w cs fs gs p k h q = record { below = λ e. groups.make-below ns w _ _ gs p (rw e at q) h }
+    -- the made groups: one more, none, or all as it was
+    pub make-stored : (m : ℕ) → k ≡ MakeGroup → Passed L gs p k → Named p m → Stored L (line L gs p k .change) gs vs bs (Make m) vs bs
+    unfolding line after
+    make-stored m e h q =
+        let n = groups.make-set ns w _ _ gs p m (as-command MakeGroup e h) q in
+        rw e (record { values = refl; blocks = refl; groups = ap (λ x. gs ++ x ∷ []) n })
+
+    pub remove-stored : k ≡ RemoveGroups → Stored L (line L gs p k .change) gs vs bs Remove vs bs
+    unfolding line after
+    remove-stored e = rw e (record { values = refl; blocks = refl; groups = refl })
+
+    pub kept-stored : (c : Command) → k ≡ c → line L gs p c .change ≡ nothing → Stored L (line L gs p k .change) gs vs bs Keep vs bs
+    unfolding after
+    kept-stored c e n = rw (e, n) (record { values = refl; blocks = refl; groups = refl })

@@ -23,13 +23,12 @@ use Rattle.lists.proofs.Put.{mid-rest}
 use Rattle.parts.specs.Parts.{Passed}
 use Rattle.parts.proofs.Told.{not-on, not-off, or-left, or-right, or-none}
 use Rattle.parts.proofs.Passed.{fail-no}
-use Rattle.serve.specs.Serve.{lentLayout, heldBy, Standing, Makes, Stored, regrouped, Regrouped, Spoke, Judged, PerformedAs}
+use Rattle.serve.specs.Serve.{heldBy, Stored, regrouped, Spoke, Judged, PerformedAs}
 use Rattle.serve.specs.declared.Regroup.{Regroup}
 use Rattle.serve.specs.declared.Regroup.the-variants.{Keep}
 use Rattle.serve.specs.declared.Spoken.{Spoken}
 use Rattle.serve.specs.declared.Spoken.the-variants.{Reply}
 use Rattle.serve.proofs.Answers.{done-said}
-use Rattle.serve.proofs.Effects.{makes}
 
 module _ (l : Layout) (gs : List ℕ) (busy : ℕ) (m : List ℕ) where
   -- the three returns of a judgement
@@ -79,25 +78,18 @@ module _ (l : Layout) (gs m : List ℕ) (v : Check) where
   pub judged-passed : (k : Command) → Judged l gs m v → v ≡ Pass → k ≡ commandOf (byteAt m 0) → Passed l gs (midOf 3 (length m - 3) m) k
   judged-passed k j e f = message-passed l gs (j .marks) m v k (j .judged) e f
 
--- a request for a new group names variables below 64
-pub message-makes : (ns : List ℕ) (w : ℕ) (cs fs gs vs bs : List ℕ) (busy : ℕ) (m : List ℕ) (v : Check) (k : Command) → Standing ns cs fs gs vs bs
-    → v ≡ judge (lentLayout ns w cs fs) gs busy m → v ≡ Pass → k ≡ commandOf (byteAt m 0) → Makes k (midOf 3 (length m - 3) m)
-message-makes ns w cs fs gs vs bs busy m v k h q e f =
-    makes ns w cs fs gs (midOf 3 (length m - 3) m) k (h .variables .few) (message-passed (lentLayout ns w cs fs) gs busy m v k q e f)
-
 -- the two ends of a message's work
 module _ (l : Layout) (gs : List ℕ) (busy : ℕ) (m vs bs : List ℕ) (v : Check) (q : v ≡ judge l gs busy m) where
   pub performed-pass : (k : Command) (g : Regroup) (vs′ bs′ : List ℕ) → v ≡ Pass → k ≡ commandOf (byteAt m 0)
-      → Stored l (line l gs (midOf 3 (length m - 3) m) k .change) gs vs bs vs′ bs′ → Regrouped k (midOf 3 (length m - 3) m) g
+      → Stored l (line l gs (midOf 3 (length m - 3) m) k .change) gs vs bs g vs′ bs′
       → PerformedAs l gs busy m vs bs (record { check = v; regroup = g }) vs′ bs′
   unfolding stateAfter
-  performed-pass k g vs′ bs′ e f s r =
-      let h : Passed l gs (midOf 3 (length m - 3) m) k = message-passed l gs busy m v k q e f in
+  performed-pass k g vs′ bs′ e f s =
       let ch = line l gs (midOf 3 (length m - 3) m) k .change in
       let a : ch ≡ asked l gs m .change = rw (f, mid-rest 3 m) in
       let st : State = after ch (heldBy l vs bs gs) in
       let w : heldBy l vs′ bs′ (regrouped g gs) ≡ st =
-      λ i. record { values = s .values i; blocks = s .blocks i; groups = r .is l (heldBy l vs bs gs) h i } in
+      λ i. record { values = s .values i; blocks = s .blocks i; groups = s .groups i } in
       record { check = q; holds = rw (← q, e) (w ∙ ap (λ x. after x (heldBy l vs bs gs)) a) }
 
   pub performed-fail : (x : WireError) → v ≡ Fail x → PerformedAs l gs busy m vs bs (record { check = v; regroup = Keep }) vs bs

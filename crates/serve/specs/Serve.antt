@@ -6,14 +6,12 @@ use Prim.Native.Nat.{ℕ, _≤_}
 use lib.ListN.{length}
 use Rattle.bsmp.specs.Base.{every, cut}
 use Rattle.bsmp.specs.Board.{Layout, State, blockSizes, usableSize, usableFunctions}
-use Rattle.bsmp.specs.Message.{Change, line, asked, judge, after, Said, replies, runs, stateAfter}
+use Rattle.bsmp.specs.Message.{Change, asked, judge, after, Said, replies, runs, stateAfter}
 use Rattle.bsmp.specs.Store.{held}
-use Rattle.bsmp.specs.declared.Command.{Command}
-use Rattle.bsmp.specs.declared.Command.the-variants.{MakeGroup}
 use Rattle.bsmp.specs.declared.Check.{Check}
 use Rattle.lists.specs.Put.{put}
-use Rattle.sets.specs.Promises.{Sound, Below}
-use Rattle.parts.specs.Parts.{layoutOf, Passed}
+use Rattle.sets.specs.Promises.{Sound}
+use Rattle.parts.specs.Parts.{layoutOf}
 use Rattle.records.specs.Lending.{curvesOf, functionsOf, lent}
 use Rattle.curves.specs.Fits.{SoundCurves}
 use Rattle.serve.specs.declared.Regroup.{Regroup}
@@ -38,24 +36,17 @@ pub record Standing (ns cs fs gs values store : List ℕ) : Type 0 where
   pub functions : usableFunctions (functionsOf fs) ≡ true
   pub groups : length gs ≤ 5
 
--- the stores after a change, against the definition
-pub record Stored (l : Layout) (ch : Change) (gs vs bs vs′ bs′ : List ℕ) : Type 0 where
-  pub values : cut (l .sizes) vs′ ≡ after ch (heldBy l vs bs gs) .values
-  pub blocks : cut (blockSizes (l .curves)) bs′ ≡ after ch (heldBy l vs bs gs) .blocks
-
 -- the made groups after a message
 abbrev pub regrouped : Regroup → List ℕ → List ℕ
 regrouped Keep gs = gs
 regrouped (Make m) gs = gs ++ m ∷ []
 regrouped Remove gs = []
 
--- a request for a new group names variables below 64
-pub record Makes (k : Command) (p : List ℕ) : Type 0 where
-  pub below : k ≡ MakeGroup → Below 64 p
-
--- the regrouping is the definition's, on every board where the command passes
-pub record Regrouped (k : Command) (p : List ℕ) (r : Regroup) : Type 0 where
-  pub is : (l : Layout) (s : State) → Passed l (s .groups) p k → regrouped r (s .groups) ≡ after (line l (s .groups) p k .change) s .groups
+-- both stores and the made groups after a change, against the definition
+pub record Stored (l : Layout) (ch : Change) (gs vs bs : List ℕ) (r : Regroup) (vs′ bs′ : List ℕ) : Type 0 where
+  pub values : cut (l .sizes) vs′ ≡ after ch (heldBy l vs bs gs) .values
+  pub blocks : cut (blockSizes (l .curves)) bs′ ≡ after ch (heldBy l vs bs gs) .blocks
+  pub groups : regrouped r gs ≡ after ch (heldBy l vs bs gs) .groups
 
 -- how the code says what was said: a reply's payload stands in the buffer
 abbrev pub spokenOf : Said → Spoken

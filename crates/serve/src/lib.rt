@@ -10,7 +10,7 @@ ghost use Prim.Native.Nat.{ℕ, _+_, _≤_, _<_};
 ghost use lib.ListN.{length, drop};
 ghost use Rattle.bsmp.specs.Message.{functionAt, line, check, judge, asked, runs, spoken, said};
 ghost use Rattle.parts.specs.Parts.{Passed, Answered};
-ghost use Rattle.serve.specs.Serve.{lentLayout, heldBy, Standing, Stored, Makes, Regrouped, spokenOf, Spoke, PerformedAs, Judged};
+ghost use Rattle.serve.specs.Serve.{lentLayout, heldBy, Standing, Stored, spokenOf, Spoke, PerformedAs, Judged};
 ghost use Rattle.serve.specs.declared.Spoken.the-variants.{Reply};
 
 // What a message makes of the made groups.
@@ -115,7 +115,7 @@ fn judge(
     )
 }
 
-// Carries out a command that passed its tests: what it changes in the two stores.
+// Carries out a command that passed its tests: what it changes in the two stores, and what it makes of the made groups.
 fn effect(
     command: Command,
     sizes: &[u8],
@@ -126,55 +126,13 @@ fn effect(
     values: &mut [u8],
     store: &mut [u8],
     payload: &[u8],
-)
+) -> Regroup
     requires { ⌜ Standing (now sizes) (now curves) (now functions) (now groups) (now values) (now store) ⌝ }
     requires { ⌜ Passed (lentLayout (now sizes) writable (now curves) (now functions)) (now groups) (now payload) command ⌝ }
-    ensures { λ _. ⌜ Stored (lentLayout (now (sizes .entry)) writable (now (curves .entry)) (now (functions .entry))) (line (lentLayout (now (sizes .entry)) writable (now (curves .entry)) (now (functions .entry))) (now (groups .entry)) (now (payload .entry)) command .change)
-        (now (groups .entry)) (now (values .entry)) (now (store .entry)) (now (values .exit)) (now (store .exit)) ⌝ }
+    ensures { λ r. ⌜ Stored (lentLayout (now (sizes .entry)) writable (now (curves .entry)) (now (functions .entry))) (line (lentLayout (now (sizes .entry)) writable (now (curves .entry)) (now (functions .entry))) (now (groups .entry)) (now (payload .entry)) command .change)
+        (now (groups .entry)) (now (values .entry)) (now (store .entry)) r (now (values .exit)) (now (store .exit)) ⌝ }
 {
     match command {
-        Command::WriteVariable => variables::change(sizes, values, Operation::Replace, payload, 1),
-        Command::MaskVariable => variables::change(
-            sizes,
-            values,
-            Operation::of(payload[1]),
-            payload,
-            2,
-        ),
-        Command::WriteRead => variables::change(sizes, values, Operation::Replace, payload, 2),
-        Command::WriteGroup => {
-            let op = Operation::Replace;
-            groups::change(sizes, writable, groups, values, op, payload, 1)
-        }
-        Command::MaskGroup => {
-            let op = Operation::of(payload[1]);
-            groups::change(sizes, writable, groups, values, op, payload, 2)
-        }
-        Command::WriteBlock => curves::change(curves, store, payload),
-        Command::MakeGroup => {}
-        Command::RemoveGroups => {}
-        Command::Version => {}
-        Command::ListVariables => {}
-        Command::ListGroups => {}
-        Command::ShowGroup => {}
-        Command::ListCurves => {}
-        Command::ListFunctions => {}
-        Command::ReadVariable => {}
-        Command::ReadGroup => {}
-        Command::ReadBlock => {}
-        Command::RunFunction => {}
-        Command::Unknown => {}
-    }
-}
-
-// And what it changes in the made groups.
-fn regroup_of(command: Command, payload: &[u8]) -> Regroup
-    requires { ⌜ Makes command (now payload) ⌝ }
-    ensures { λ r. ⌜ Regrouped command (now (payload .entry)) r ⌝ }
-{
-    match command {
-        Command::MakeGroup => Regroup::Make(sets::set_of(payload)),
-        Command::RemoveGroups => Regroup::Remove,
         Command::Version => Regroup::Keep,
         Command::ListVariables => Regroup::Keep,
         Command::ListGroups => Regroup::Keep,
@@ -183,13 +141,49 @@ fn regroup_of(command: Command, payload: &[u8]) -> Regroup
         Command::ListFunctions => Regroup::Keep,
         Command::ReadVariable => Regroup::Keep,
         Command::ReadGroup => Regroup::Keep,
-        Command::WriteVariable => Regroup::Keep,
-        Command::WriteGroup => Regroup::Keep,
-        Command::MaskVariable => Regroup::Keep,
-        Command::MaskGroup => Regroup::Keep,
-        Command::WriteRead => Regroup::Keep,
+        Command::WriteVariable => {
+            variables::change(sizes, values, Operation::Replace, payload, 1);
+            Regroup::Keep
+        }
+        Command::WriteGroup => {
+            groups::change(
+                sizes,
+                writable,
+                groups,
+                values,
+                Operation::Replace,
+                payload,
+                1,
+            );
+            Regroup::Keep
+        }
+        Command::MaskVariable => {
+            variables::change(sizes, values, Operation::of(payload[1]), payload, 2);
+            Regroup::Keep
+        }
+        Command::MaskGroup => {
+            groups::change(
+                sizes,
+                writable,
+                groups,
+                values,
+                Operation::of(payload[1]),
+                payload,
+                2,
+            );
+            Regroup::Keep
+        }
+        Command::WriteRead => {
+            variables::change(sizes, values, Operation::Replace, payload, 2);
+            Regroup::Keep
+        }
+        Command::MakeGroup => Regroup::Make(sets::set_of(payload)),
+        Command::RemoveGroups => Regroup::Remove,
         Command::ReadBlock => Regroup::Keep,
-        Command::WriteBlock => Regroup::Keep,
+        Command::WriteBlock => {
+            curves::change(curves, store, payload);
+            Regroup::Keep
+        }
         Command::RunFunction => Regroup::Keep,
         Command::Unknown => Regroup::Keep,
     }
@@ -288,10 +282,8 @@ pub fn perform(
     let v = judge(sizes, writable, curves, functions, groups, message, busy);
     match v {
         Check::Pass => {
-            let command = Command::of(message[0]);
-            let payload = &message[3..];
-            effect(
-                command,
+            let regroup = effect(
+                Command::of(message[0]),
                 sizes,
                 writable,
                 curves,
@@ -299,12 +291,9 @@ pub fn perform(
                 groups,
                 values,
                 store,
-                payload,
+                &message[3..],
             );
-            Performed {
-                check: v,
-                regroup: regroup_of(command, payload),
-            }
+            Performed { check: v, regroup }
         }
         Check::Fail(_) => Performed {
             check: v,

@@ -1,6 +1,6 @@
 -- `perform` meets its contract. Assumes nothing.
 use borrow.Author.Needs.{needs}
-use Rattle.serve.proofs.Judging.{message-some, message-long, message-passed, message-makes, performed-pass, performed-fail}
+use Rattle.serve.proofs.Judging.{message-some, message-long, message-passed, performed-pass, performed-fail}
 use Rattle.serve.proofs.perform.Statement.{statement}
 use Rattle.serve.proofs.perform.Tie as tie
 
@@ -9,5 +9,5 @@ perform-spec =
     tie.close
     (tie.spec
     (λ c κs. search needs) (λ c. search needs) (λ c. search (message-some, needs)) (λ c κs. search needs) (λ c. search (message-long, needs)) (λ c. search (message-long, needs)) (λ c. search needs)
-    (λ c κs. (search needs, search (message-passed, needs))) (λ c κs. search (message-makes, needs)) (λ c. search needs) (λ c. search needs) (λ c. search needs)
+    (λ c κs. (search needs, search (message-passed, needs))) (λ c. search needs) (λ c. search needs) (λ c. search needs)
     (λ c. search (performed-pass, needs)) (λ c. search (performed-fail, needs)))
