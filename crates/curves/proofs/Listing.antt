@@ -1,20 +1,20 @@
--- The list of curves, from one on, as the walk writes it. Assumes nothing.
-use mathlib.Core.Path.{_≡_, refl, sym, ap, ap₂, _∙_}
+-- The list of curves, record after record as the walk writes it. Assumes nothing.
+use mathlib.Core.Path.{_≡_, refl, sym, ap, _∙_}
 use mathlib.Core.Bool.{true}
 use mathlib.Core.List.{List, [], _∷_, _++_, map}
-use Prim.Native.Nat.{ℕ, _+_, _*_, _/_, _%_, _≤_, _<_}
-use native.Mathlib.Numerals.{add-one}
+use Prim.Native.Nat.{ℕ, zero, suc, _+_, _*_, _/_, _%_, _≤_, _<_}
 use native.Mathlib.Omega.{arith}
-use lib.ListN.{length, drop, set, getD, length-append, length-set, drop-of-length-le}
-use lib.Seq.{drop-cons}
+use lib.ListN.{length, drop, set, getD, length-append, length-set}
+use lib.Seq.{drop-append-seam, drop-append-add}
 use borrow.Author.Tests.{eq-eqb, ne-eqb}
 use Rattle.bsmp.specs.Base.{join, bit, word}
 use Rattle.bsmp.specs.Board.{isWritable, blankCurve, usableCurves}
 use Rattle.bsmp.specs.Message.{curveRecord, curveList}
 use Rattle.bsmp.specs.declared.Curve.{Curve}
 use Rattle.lists.specs.Put.{put}
-use Rattle.lists.proofs.Put.{put-nil, put-set, put-put, set-put, length-put}
+use Rattle.lists.proofs.Put.{put-set, put-put, set-put}
 use Rattle.parts.specs.Parts.{curvesOnly, Answered}
+use Rattle.parts.proofs.Listing.{Listing, listing-start, listing-piece, listing-end}
 use Rattle.records.proofs.Sound.{curves-most}
 
 -- a type
@@ -44,52 +44,29 @@ unfolding curveList
 length-list [] = refl
 length-list (c ∷ cs) = omega (arith, length-append (curveRecord c) (join (map curveRecord cs)), length-list cs)
 
-module _ (cs : List Curve) where
-  unfoldable pub listFrom : ℕ → List ℕ
-  listFrom i = join (map curveRecord (drop i cs))
+-- the record of curve i stands at place 5 i of the list
+from-next : (cs : List Curve) (i : ℕ) → i < length cs
+    → drop (5 * i) (curveList (curvesOnly cs)) ≡ curveRecord (getD cs i blankCurve) ++ drop (5 * i + 5) (curveList (curvesOnly cs))
+unfolding curveList
+from-next [] i h = absurd (omega (arith, h))
+from-next (c ∷ cs) zero h = ap (curveRecord c ++_) (sym (drop-append-seam (curveRecord c) (join (map curveRecord cs))))
+from-next (c ∷ cs) (suc i) h =
+    let e : 5 * suc i ≡ 5 + 5 * i = omega arith in
+    let f : 5 * suc i + 5 ≡ 5 + (5 * i + 5) = omega arith in
+    let l : List ℕ = join (map curveRecord cs) in
+    rw (f, e) (drop-append-add (curveRecord c) l (5 * i) ∙ from-next cs i (omega (arith, h))
+    ∙ ap (curveRecord (getD cs i blankCurve) ++_) (sym (drop-append-add (curveRecord c) l (5 * i + 5))))
 
-  from-all : listFrom 0 ≡ curveList (curvesOnly cs)
-  unfolding listFrom curveList
-  from-all = refl
+module _ (cs : List Curve) (r₀ : List ℕ) (at : ℕ) where
+  pub list-start : usableCurves cs ≡ true → Listing (curveList (curvesOnly cs)) (5 * length cs) r₀ at 0 r₀
+  list-start u = listing-start _ _ r₀ at (length-list cs) (omega (arith, curves-most cs u))
 
-  from-next : (i : ℕ) (x : Curve) → i < length cs → x ≡ getD cs i blankCurve → listFrom i ≡ curveRecord x ++ listFrom (i + 1)
-  unfolding listFrom
-  from-next i x h e = rw (add-one, e, drop-cons cs i blankCurve)
+  module _ (n i : ℕ) (r : List ℕ) (q : Listing (curveList (curvesOnly cs)) (5 * length cs) r₀ at (5 * i) r) (l : n ≡ length cs) where
+    pub list-next : (x : Curve) (r′ : List ℕ) → at + 4099 ≤ length r₀ → i < n → x ≡ getD cs i blankCurve → r′ ≡ put r (at + 5 * i) (curveRecord x)
+        → Listing (curveList (curvesOnly cs)) (5 * length cs) r₀ at (5 * (i + 1)) r′
+    list-next x r′ o h e w =
+        let z : 5 * (i + 1) ≡ 5 * i + 5 = omega arith in
+        rw z (listing-piece _ _ r₀ at (5 * i) r q (curveRecord x) r′ o (omega arith) (rw e (from-next cs i (omega arith))) w)
 
-  from-end : (i : ℕ) → length cs ≤ i → listFrom i ≡ []
-  unfolding listFrom
-  from-end i h = rw (drop-of-length-le cs {i = i} h)
-
-  module _ (r₀ : List ℕ) (at : ℕ) where
-    -- what is left to write from curve i on gives the whole list
-    pub record Listing (i : ℕ) (r : List ℕ) : Type 0 where
-      pub few : length cs ≤ 8
-      pub inside : i ≤ length cs
-      pub kept : length r ≡ length r₀
-      pub done : put r (at + 5 * i) (listFrom i) ≡ put r₀ at (curveList (curvesOnly cs))
-
-    pub list-start : usableCurves cs ≡ true → Listing 0 r₀
-    list-start u =
-        let z : at + 5 * 0 ≡ at = omega arith in
-        record { few = curves-most cs u; inside = omega arith; kept = refl; done = ap₂ (put r₀) z from-all }
-
-    module _ (n i : ℕ) (r : List ℕ) (l : n ≡ length cs) (q : Listing i r) where
-      pub list-next : (x : Curve) (r′ : List ℕ) → at + 4099 ≤ length r₀ → i < n → x ≡ getD cs i blankCurve → r′ ≡ put r (at + 5 * i) (curveRecord x) → Listing (i + 1) r′
-      list-next x r′ o h e w =
-          let k : at + 5 * i + 5 ≤ length r = omega (arith, q .kept, q .few) in
-          let z : at + 5 * (i + 1) ≡ at + 5 * i + 5 = omega arith in
-          record {
-            few = q .few;
-            inside = omega arith;
-            kept = ap length w ∙ length-put r (at + 5 * i) (curveRecord x) k ∙ q .kept;
-            done = ap₂ (λ (y : List ℕ) (j : ℕ). put y j (listFrom (i + 1))) w z
-                ∙ put-put r (at + 5 * i) (curveRecord x) (listFrom (i + 1)) k
-                ∙ ap (put r (at + 5 * i)) (sym (from-next i x (omega arith) e)) ∙ q .done;
-          }
-
-      pub list-end : n ≤ i → Answered r₀ at (curveList (curvesOnly cs)) (5 * n) r
-      list-end h = record {
-        count = rw l (sym (length-list cs));
-        written = sym (put-nil r (at + 5 * i)) ∙ ap (put r (at + 5 * i)) (sym (from-end i (omega arith))) ∙ q .done;
-        short = omega (arith, q .few);
-      }
+    pub list-end : n ≤ i → Answered r₀ at (curveList (curvesOnly cs)) (5 * n) r
+    list-end h = listing-end _ _ r₀ at (5 * i) r q (5 * n) (omega arith) (omega arith)
