@@ -1,5 +1,5 @@
 -- A function to be run: its input stands at place 5 of the packet. Assumes nothing.
-use mathlib.Core.Path.{_≡_, sym, ap, _∙_}
+use mathlib.Core.Path.{_≡_, refl, sym, ap, _∙_}
 use mathlib.Core.Bool.{Bool, true, false}
 use mathlib.Core.List.{List, [], _∷_}
 use Prim.Native.Nat.{ℕ, zero, suc, _-_}
@@ -24,12 +24,12 @@ drop-take (suc a) zero l = let e : 0 - suc a ≡ 0 = omega arith in rw e
 drop-take (suc a) (suc n) [] = rw (take-nil (suc n - suc a))
 drop-take (suc a) (suc n) (x ∷ l) = let e : suc n - suc a ≡ n - a = omega arith in rw e (drop-take a n l)
 
--- what a message says is a function's run only with the input that follows its number
-abbrev Runs : List ℕ → Said → Type 0
-Runs m (replies c p) = Unit {0}
-Runs m (runs f i) = i ≡ drop 4 m
+-- what a message says is a function's run only if it is 50, and with the input that follows the function's number
+abbrev Runs : List ℕ → Command → Said → Type 0
+Runs m k (replies c p) = Unit {0}
+Runs m k (runs f i) = (i ≡ drop 4 m) × (k ≡ RunFunction)
 
-line-runs : (l : Layout) (gs m : List ℕ) (k : Command) (s : State) → Runs m (spoken (line l gs (drop 3 m) k .answer) s)
+line-runs : (l : Layout) (gs m : List ℕ) (k : Command) (s : State) → Runs m k (spoken (line l gs (drop 3 m) k .answer) s)
 unfolding line spoken
 line-runs l gs m Version s = tt
 line-runs l gs m ListVariables s = tt
@@ -48,13 +48,22 @@ line-runs l gs m MakeGroup s = tt
 line-runs l gs m RemoveGroups s = tt
 line-runs l gs m ReadBlock s = tt
 line-runs l gs m WriteBlock s = tt
-line-runs l gs m RunFunction s = drop-drop 1 3 m
+line-runs l gs m RunFunction s = (drop-drop 1 3 m, refl)
 line-runs l gs m Unknown s = tt
 
-handled-runs : (l : Layout) (busy : ℕ) (m : List ℕ) (s : State) → Runs m (handled l busy m s .says)
+-- so where no answer is due all but 50 end in silence
+pub silent : (l : Layout) (gs m : List ℕ) (k : Command) (s : State) → (k ≡ RunFunction → ⊥) → ends false (spoken (line l gs (drop 3 m) k .answer) s) ≡ silence
+unfolding ends
+silent l gs m k s h = by (spoken (line l gs (drop 3 m) k .answer) s) (line-runs l gs m k s)
+  where
+    by : (x : Said) → Runs m k x → ends false x ≡ silence
+    by (replies c p) r = refl
+    by (runs f i) r = absurd (h (r .1))
+
+handled-runs : (l : Layout) (busy : ℕ) (m : List ℕ) (s : State) → Runs m (commandOf (byteAt m 0)) (handled l busy m s .says)
 unfolding handled carried said
 handled-runs l busy m s =
-    judge-case l (s .groups) busy m (λ v. Runs m (said (asked l (s .groups) m) v (stateAfter (asked l (s .groups) m) v s))) (λ e. tt)
+    judge-case l (s .groups) busy m (λ v. Runs m (commandOf (byteAt m 0)) (said (asked l (s .groups) m) v (stateAfter (asked l (s .groups) m) v s))) (λ e. tt)
     (λ c. line-runs l (s .groups) m (commandOf (byteAt m 0)) _)
 
 -- the input of a run is the part of the packet from place 5 on, up to the checksum
@@ -64,20 +73,20 @@ At5 p silence = Unit {0}
 At5 p (run f i due) = i ≡ take (length p - 6) (drop 5 p)
 At5 p (Ending.refused n) = Unit {0}
 
-ends-at : (due : Bool) (p : List ℕ) (x : Said) → Runs (message p) x → At5 p (ends due x)
+ends-at : (due : Bool) (p : List ℕ) (k : Command) (x : Said) → Runs (message p) k x → At5 p (ends due x)
 unfolding ends
-ends-at true p (replies c b) h = tt
-ends-at false p (replies c b) h = tt
-ends-at due p (runs f i) h =
+ends-at true p k (replies c b) h = tt
+ends-at false p k (replies c b) h = tt
+ends-at due p k (runs f i) h =
     let e : length p - 2 - 4 ≡ length p - 6 = omega arith in
-    h ∙ drop-take 4 (length p - 2) (drop 1 p) ∙ rw (e, drop-drop 4 1 p)
+    h .0 ∙ drop-take 4 (length p - 2) (drop 1 p) ∙ rw (e, drop-drop 4 1 p)
 
 packet-at : (t : Table) (a : Place) (busy room : ℕ) (p : List ℕ) (s : State) → At5 p (packet t a busy room p s .ending)
 unfolding packet
 packet-at t a busy room p s =
     first-case (λ x. At5 p (x .ending)) (boardTests (usable t s) a room) (refuse s) _ (λ r. tt)
     (λ c. first-case (λ x. At5 p (x .ending)) (packetTests a p) (refuse s) _ (λ r. tt)
-    (λ d. ends-at _ p _ (handled-runs (layout t) busy (message p) s)))
+    (λ d. ends-at _ p _ _ (handled-runs (layout t) busy (message p) s)))
 
 pub input-at-5 : (t : Table) (a : Place) (busy room : ℕ) (p : List ℕ) (s : State) (f : FunctionNumber) (i : List ℕ) (due : Bool)
     → packet t a busy room p s .ending ≡ run f i due → i ≡ take (length i) (drop 5 p)

@@ -21,6 +21,7 @@ use Rattle.bsmp.specs.declared.Check.{Check}
 use Rattle.bsmp.specs.declared.Check.the-variants.{Pass, Fail}
 use Rattle.bsmp.specs.declared.Outcome.{Outcome}
 use Rattle.bsmp.specs.declared.Outcome.the-variants as O
+use Rattle.bsmp.proofs.Input.{silent}
 use Rattle.lists.specs.Put.{put, part}
 use Rattle.lists.proofs.Put.{put-nil, mid-rest}
 use Rattle.wire.proofs.Frame.{frame-shown, frame-outcome}
@@ -77,6 +78,9 @@ quiet-run k m f e h = rw e (record {
   is = λ l gs s. ap₂ (λ u v. O.Run u v false) (h ∙ ap function (sym (getD-drop 3 m 0 0)))
       (let n : length (drop 1 (drop 3 m)) ≡ length m - 3 - 1 = simp length-drop in omega arith);
 })
+
+pub quiet-silence : (k : Command) (m : List ℕ) → (k ≡ RunFunction → ⊥) → Quiet k m O.Silence
+quiet-silence k m h = record { is = λ l gs s. ap outcomeOf (sym (silent l gs m k s h)) }
 
 pub unanswered-pass : (v : Check) (m : List ℕ) (k : Command) (o : Outcome) → v ≡ Pass → k ≡ commandOf (byteAt m 0) → Quiet k m o → Unanswered v m o
 unfolding said
