@@ -2,15 +2,19 @@
 use mathlib.Core.Path.{_≡_, refl, ap}
 use mathlib.Core.List.{List, [], _∷_, _++_, map}
 use Prim.Native.Nat.{ℕ, _<_}
+use denote.Enum.Declared.{tagOf}
+use types.Run.{OneOf, miss}
 use lib.ListN.{length, drop, set}
-use Rattle.bsmp.specs.Base.{cut, byteAt}
+use Rattle.bsmp.specs.Base.{upFrom, cut, byteAt}
 use Rattle.bsmp.specs.Codes.{operationOf}
 use Rattle.bsmp.specs.Board.{Layout, sizeOf, members}
 use Rattle.bsmp.specs.Message.{nothing, variableAt, groupAt, line, edited, filled, after}
 use Rattle.bsmp.specs.declared.Operation.{Operation}
 use Rattle.bsmp.specs.declared.Operation.the-variants.{Replace}
 use Rattle.bsmp.specs.declared.Command.{Command}
-use Rattle.bsmp.specs.declared.Command.the-variants.{WriteVariable, WriteGroup, MaskVariable, MaskGroup, WriteRead, MakeGroup, RemoveGroups, WriteBlock}
+use Rattle.bsmp.specs.declared.Command.the-variants.{Version, ListVariables, ListGroups, ShowGroup, ListCurves, ListFunctions, ReadVariable, ReadGroup, WriteVariable, WriteGroup}
+use Rattle.bsmp.specs.declared.Command.the-variants.{MaskVariable, MaskGroup, WriteRead, MakeGroup, RemoveGroups, ReadBlock, WriteBlock, RunFunction, Unknown}
+use Rattle.bsmp.proofs.Command.{the-type}
 use Rattle.sets.specs.Promises.{Below, Named}
 use Rattle.parts.specs.Parts.{variablesOnly, Passed}
 use Rattle.records.specs.Lending.{curvesOf}
@@ -22,6 +26,32 @@ use Rattle.curves.specs.Fits.{BlockFits, blocksIn, placeOf, namedBlock}
 use Rattle.curves.proofs.Passes as curves
 use Rattle.serve.specs.Serve.{lentLayout, Standing, Stored}
 use Rattle.serve.specs.declared.Regroup.the-variants.{Keep, Make, Remove}
+
+-- the commands that change nothing, by the numbers of their variants: a match's last arm is told no more
+abbrev pub keeping : List ℕ
+keeping = upFrom 0 8 ++ 15 ∷ 17 ∷ 18 ∷ []
+
+keeps : (ns : List ℕ) (w : ℕ) (cs fs gs p : List ℕ) (k : Command) → OneOf keeping (tagOf the-type k) → line (lentLayout ns w cs fs) gs p k .change ≡ nothing
+unfolding line
+keeps ns w cs fs gs p Version h = refl
+keeps ns w cs fs gs p ListVariables h = refl
+keeps ns w cs fs gs p ListGroups h = refl
+keeps ns w cs fs gs p ShowGroup h = refl
+keeps ns w cs fs gs p ListCurves h = refl
+keeps ns w cs fs gs p ListFunctions h = refl
+keeps ns w cs fs gs p ReadVariable h = refl
+keeps ns w cs fs gs p ReadGroup h = refl
+keeps ns w cs fs gs p WriteVariable h = absurd (miss keeping 8 tt h)
+keeps ns w cs fs gs p WriteGroup h = absurd (miss keeping 9 tt h)
+keeps ns w cs fs gs p MaskVariable h = absurd (miss keeping 10 tt h)
+keeps ns w cs fs gs p MaskGroup h = absurd (miss keeping 11 tt h)
+keeps ns w cs fs gs p WriteRead h = absurd (miss keeping 12 tt h)
+keeps ns w cs fs gs p MakeGroup h = absurd (miss keeping 13 tt h)
+keeps ns w cs fs gs p RemoveGroups h = absurd (miss keeping 14 tt h)
+keeps ns w cs fs gs p ReadBlock h = refl
+keeps ns w cs fs gs p WriteBlock h = absurd (miss keeping 16 tt h)
+keeps ns w cs fs gs p RunFunction h = refl
+keeps ns w cs fs gs p Unknown h = refl
 
 module _ (ns : List ℕ) (w : ℕ) (cs fs gs p : List ℕ) (k : Command) where
   abbrev L : Layout
@@ -106,6 +136,6 @@ module _ (ns : List ℕ) (w : ℕ) (cs fs gs p : List ℕ) (k : Command) where
     unfolding line after
     remove-stored e = rw e (record { values = refl; blocks = refl; groups = refl })
 
-    pub kept-stored : (c : Command) → k ≡ c → line L gs p c .change ≡ nothing → Stored L (line L gs p k .change) gs vs bs Keep vs bs
+    pub kept-stored : OneOf keeping (tagOf the-type k) → Stored L (line L gs p k .change) gs vs bs Keep vs bs
     unfolding after
-    kept-stored c e n = rw (e, n) (record { values = refl; blocks = refl; groups = refl })
+    kept-stored h = rw (keeps ns w cs fs gs p k h) (record { values = refl; blocks = refl; groups = refl })

@@ -133,28 +133,13 @@ fn effect(
         (now (groups .entry)) (now (values .entry)) (now (store .entry)) r (now (values .exit)) (now (store .exit)) ⌝ }
 {
     match command {
-        Command::Version => Regroup::Keep,
-        Command::ListVariables => Regroup::Keep,
-        Command::ListGroups => Regroup::Keep,
-        Command::ShowGroup => Regroup::Keep,
-        Command::ListCurves => Regroup::Keep,
-        Command::ListFunctions => Regroup::Keep,
-        Command::ReadVariable => Regroup::Keep,
-        Command::ReadGroup => Regroup::Keep,
         Command::WriteVariable => {
             variables::change(sizes, values, Operation::Replace, payload, 1);
             Regroup::Keep
         }
         Command::WriteGroup => {
-            groups::change(
-                sizes,
-                writable,
-                groups,
-                values,
-                Operation::Replace,
-                payload,
-                1,
-            );
+            let op = Operation::Replace;
+            groups::change(sizes, writable, groups, values, op, payload, 1);
             Regroup::Keep
         }
         Command::MaskVariable => {
@@ -162,15 +147,8 @@ fn effect(
             Regroup::Keep
         }
         Command::MaskGroup => {
-            groups::change(
-                sizes,
-                writable,
-                groups,
-                values,
-                Operation::of(payload[1]),
-                payload,
-                2,
-            );
+            let op = Operation::of(payload[1]);
+            groups::change(sizes, writable, groups, values, op, payload, 2);
             Regroup::Keep
         }
         Command::WriteRead => {
@@ -179,13 +157,11 @@ fn effect(
         }
         Command::MakeGroup => Regroup::Make(sets::set_of(payload)),
         Command::RemoveGroups => Regroup::Remove,
-        Command::ReadBlock => Regroup::Keep,
         Command::WriteBlock => {
             curves::change(curves, store, payload);
             Regroup::Keep
         }
-        Command::RunFunction => Regroup::Keep,
-        Command::Unknown => Regroup::Keep,
+        _ => Regroup::Keep,
     }
 }
 
