@@ -1,0 +1,206 @@
+//! The seven entries over what a board lends. Nothing is allocated. Each takes anything, and refuses by number.
+use crate::outcome::done;
+use crate::raw;
+use crate::{
+    Address, FunctionNumber, Groups, Outcome, Ran, Refusal, Table, Variable, VariableNumber,
+};
+
+/// Carries out one packet and writes the reply, if one is due.
+///
+/// `values` is the variables' store and `blocks` the curves' store, each of exactly the length that the records add up
+/// to; bit n of `busy` marks variable n as busy. Refusals 1 to 6.
+#[allow(clippy::too_many_arguments)]
+pub fn packet<'a>(
+    table: &Table,
+    groups: &mut Groups,
+    address: Address,
+    busy: u64,
+    values: &mut [u8],
+    blocks: &mut [u8],
+    request: &'a [u8],
+    reply: &'a mut [u8],
+) -> Outcome<'a> {
+    // SAFETY: each pointer is a slice's or a reference's, with its length; Rust's borrows keep what is written apart.
+    let told = unsafe {
+        raw::bsmp_packet(
+            table.variables.as_ptr(),
+            table.variables.len(),
+            table.curves.as_ptr(),
+            table.curves.len(),
+            table.functions.as_ptr(),
+            table.functions.len(),
+            groups,
+            address.own,
+            address.multicast,
+            busy,
+            values.as_mut_ptr(),
+            values.len(),
+            blocks.as_mut_ptr(),
+            blocks.len(),
+            request.as_ptr(),
+            request.len(),
+            reply.as_mut_ptr(),
+            reply.len(),
+        )
+    };
+    Outcome::told(told, request, reply)
+}
+
+/// Hands in a function's result and whether an answer was due; writes reply 51 or 53, or stays silent if none was due.
+///
+/// Refusals 1, 3, 7 and 8; 8 only for a successful result.
+#[allow(clippy::too_many_arguments)]
+pub fn function_result<'a>(
+    table: &Table,
+    groups: &Groups,
+    values: &[u8],
+    blocks: &[u8],
+    function: FunctionNumber,
+    due: bool,
+    ran: Ran,
+    reply: &'a mut [u8],
+) -> Outcome<'a> {
+    let (failed, error, output) = match ran {
+        Ran::Gave(output) => (false, 0, output),
+        Ran::Failed(error) => (true, error, &[][..]),
+    };
+    // SAFETY: as for `packet`.
+    let told = unsafe {
+        raw::bsmp_function_result(
+            table.variables.as_ptr(),
+            table.variables.len(),
+            table.curves.as_ptr(),
+            table.curves.len(),
+            table.functions.as_ptr(),
+            table.functions.len(),
+            groups,
+            values.as_ptr(),
+            values.len(),
+            blocks.as_ptr(),
+            blocks.len(),
+            function.0 as u64,
+            due,
+            failed,
+            error,
+            output.as_ptr(),
+            output.len(),
+            reply.as_mut_ptr(),
+            reply.len(),
+        )
+    };
+    Outcome::told(told, &[], reply)
+}
+
+/// Stores a new value into any variable, read-only or busy too; only those bytes change. Refusals 1, 9 and 10.
+pub fn board_store(
+    table: &Table,
+    groups: &Groups,
+    values: &mut [u8],
+    blocks: &[u8],
+    variable: VariableNumber,
+    bytes: &[u8],
+) -> Result<(), Refusal> {
+    // SAFETY: as for `packet`.
+    let refusal = unsafe {
+        raw::bsmp_board_store(
+            table.variables.as_ptr(),
+            table.variables.len(),
+            table.curves.as_ptr(),
+            table.curves.len(),
+            table.functions.as_ptr(),
+            table.functions.len(),
+            groups,
+            values.as_mut_ptr(),
+            values.len(),
+            blocks.as_ptr(),
+            blocks.len(),
+            variable.0 as u64,
+            bytes.as_ptr(),
+            bytes.len(),
+        )
+    };
+    done(refusal.into(), ())
+}
+
+/// Reads a signed variable's bytes as a number. Refusals 1, 9, 11 and 10, in this order.
+///
+/// The sign is the top bit of the most significant byte: n bytes with unsigned value u mean u, or u - 2^(8n) if
+/// u >= 2^(8n-1).
+pub fn read_signed(
+    variables: &[Variable],
+    variable: VariableNumber,
+    bytes: &[u8],
+) -> Result<i64, Refusal> {
+    // SAFETY: as for `packet`.
+    let told = unsafe {
+        raw::bsmp_read_signed(
+            variables.as_ptr(),
+            variables.len(),
+            variable.0 as u64,
+            bytes.as_ptr(),
+            bytes.len(),
+        )
+    };
+    done(told.refusal, told.number)
+}
+
+/// Reads an unsigned variable's bytes as a number. Refusals 1, 9, 11 and 10, in this order.
+pub fn read_unsigned(
+    variables: &[Variable],
+    variable: VariableNumber,
+    bytes: &[u8],
+) -> Result<u64, Refusal> {
+    // SAFETY: as for `packet`.
+    let told = unsafe {
+        raw::bsmp_read_unsigned(
+            variables.as_ptr(),
+            variables.len(),
+            variable.0 as u64,
+            bytes.as_ptr(),
+            bytes.len(),
+        )
+    };
+    done(told.refusal, told.number)
+}
+
+/// Writes a number as a signed variable's bytes: the only bytes that read as it. Refusals 1, 9, 11, 10 and 12.
+pub fn write_signed(
+    variables: &[Variable],
+    variable: VariableNumber,
+    number: i64,
+    buffer: &mut [u8],
+) -> Result<(), Refusal> {
+    // SAFETY: as for `packet`.
+    let refusal = unsafe {
+        raw::bsmp_write_signed(
+            variables.as_ptr(),
+            variables.len(),
+            variable.0 as u64,
+            number,
+            buffer.as_mut_ptr(),
+            buffer.len(),
+        )
+    };
+    done(refusal.into(), ())
+}
+
+/// Writes a number as an unsigned variable's bytes: the only bytes that read as it. Refusals 1, 9, 11, 10 and 12.
+pub fn write_unsigned(
+    variables: &[Variable],
+    variable: VariableNumber,
+    number: u64,
+    buffer: &mut [u8],
+) -> Result<(), Refusal> {
+    // SAFETY: as for `packet`.
+    let refusal = unsafe {
+        raw::bsmp_write_unsigned(
+            variables.as_ptr(),
+            variables.len(),
+            variable.0 as u64,
+            number,
+            buffer.as_mut_ptr(),
+            buffer.len(),
+        )
+    };
+    done(refusal.into(), ())
+}

@@ -1,0 +1,41 @@
+//! A BSMP 2.20 node for small boards: the safe Rust face of a library whose meaning is proved.
+//!
+//! One packet and a board's state give one [`Outcome`] and the next state. [`Node`] owns a board and is the easy way;
+//! the seven entries ([`packet`], [`function_result`], [`board_store`], [`read_signed`], [`read_unsigned`],
+//! [`write_signed`], [`write_unsigned`]) work on lent slices and allocate nothing. Every input is taken: what doesn't
+//! fit ends in a [`Refusal`] that changes nothing.
+//!
+//! ```
+//! use cruachvel::{packet, Address, Groups, Kind, Outcome, Table, Variable};
+//!
+//! let variables = [Variable::writable(1, Kind::Plain)];
+//! let table = Table::new(&variables, &[], &[]);
+//! let address = Address { own: 5, multicast: 0x81 };
+//! let (mut groups, mut values, mut reply) = (Groups::NONE, [0x5A], [0; 4104]);
+//! let request = [0x05, 0x24, 0x00, 0x03, 0x00, 0x54, 0x0F, 0x71]; // invert the low four bits of variable 0
+//! let outcome = packet(&table, &mut groups, address, 0, &mut values, &mut [], &request, &mut reply);
+//! assert_eq!(outcome, Outcome::Reply(&[0x00, 0xE0, 0x00, 0x00, 0x20]));
+//! assert_eq!(values, [0x55]);
+//! ```
+//!
+//! Words and numbers are those of the project's document 01. The library is for x86-64.
+#![warn(missing_docs)]
+
+mod board;
+mod entries;
+mod node;
+mod outcome;
+pub mod raw;
+
+pub use board::{
+    Address, Board, Curve, Function, FunctionNumber, Groups, Kind, Table, Variable, VariableNumber,
+    MOST_BLOCKS, MOST_PACKET, MOST_VALUES, MOST_VARIABLES,
+};
+pub use entries::{
+    board_store, function_result, packet, read_signed, read_unsigned, write_signed, write_unsigned,
+};
+pub use node::{Node, State};
+pub use outcome::{Outcome, Ran, Refusal};
+
+/// The archive that this build is linked with.
+pub const ARCHIVE: &str = env!("CRUACHVEL_ARCHIVE");

@@ -1,0 +1,152 @@
+//! What a call ends in.
+use crate::raw::Told;
+use crate::FunctionNumber;
+use std::fmt;
+
+/// A local refusal. It changes no byte of any store, group table or buffer. Smallest number first, except that 11 comes
+/// before 10.
+#[derive(Clone, Copy, Debug, PartialEq, Eq, Hash)]
+#[repr(u8)]
+pub enum Refusal {
+    /// A record, store length or group breaks the table of 01.
+    BoardUnusable = 1,
+    /// Own address or multicast byte breaks it.
+    BadAddress = 2,
+    /// The reply buffer is under 4,104 bytes.
+    ReplyBufferShort = 3,
+    /// The packet is under 2 or over 4,104 bytes.
+    PacketLength = 4,
+    /// The packet's sum isn't 0.
+    Checksum = 5,
+    /// The destination is neither own nor a joined multicast.
+    NotForThisBoard = 6,
+    /// A result is handed in for a function that doesn't exist.
+    NoSuchFunction = 7,
+    /// A successful result is not of the declared length.
+    OutputLength = 8,
+    /// A board store or reading names a variable that doesn't exist.
+    NoSuchVariable = 9,
+    /// A value or buffer is not of the variable's size.
+    WrongByteCount = 10,
+    /// The variable is plain, or signed is asked of unsigned, or the reverse.
+    WrongKind = 11,
+    /// The number is outside the variable's range.
+    DoesNotFit = 12,
+}
+
+impl Refusal {
+    /// All refusals, in the order of their numbers.
+    pub const ALL: [Refusal; 12] = [
+        Refusal::BoardUnusable,
+        Refusal::BadAddress,
+        Refusal::ReplyBufferShort,
+        Refusal::PacketLength,
+        Refusal::Checksum,
+        Refusal::NotForThisBoard,
+        Refusal::NoSuchFunction,
+        Refusal::OutputLength,
+        Refusal::NoSuchVariable,
+        Refusal::WrongByteCount,
+        Refusal::WrongKind,
+        Refusal::DoesNotFit,
+    ];
+
+    /// 01's number.
+    pub const fn number(self) -> u8 {
+        self as u8
+    }
+
+    /// The refusal that has this number.
+    pub fn of(number: u8) -> Option<Refusal> {
+        let place = usize::from(number).checked_sub(1)?;
+        Refusal::ALL.get(place).copied()
+    }
+
+    /// 01's words.
+    pub const fn words(self) -> &'static str {
+        match self {
+            Refusal::BoardUnusable => "board unusable",
+            Refusal::BadAddress => "bad address",
+            Refusal::ReplyBufferShort => "reply buffer short",
+            Refusal::PacketLength => "packet length",
+            Refusal::Checksum => "checksum",
+            Refusal::NotForThisBoard => "not for this board",
+            Refusal::NoSuchFunction => "no such function",
+            Refusal::OutputLength => "output length",
+            Refusal::NoSuchVariable => "no such variable",
+            Refusal::WrongByteCount => "wrong byte count",
+            Refusal::WrongKind => "wrong kind",
+            Refusal::DoesNotFit => "doesn't fit",
+        }
+    }
+
+    // The archive is proved to tell 1 to 12; any other number means that something else was linked in its place.
+    fn told(number: u64) -> Refusal {
+        u8::try_from(number)
+            .ok()
+            .and_then(Refusal::of)
+            .unwrap_or_else(|| unreachable!("the archive told refusal {}", number))
+    }
+}
+
+impl fmt::Display for Refusal {
+    fn fmt(&self, f: &mut fmt::Formatter) -> fmt::Result {
+        f.write_str(self.words())
+    }
+}
+
+impl std::error::Error for Refusal {}
+
+/// What a packet or a function's result ends in.
+#[derive(Clone, Copy, Debug, PartialEq, Eq)]
+pub enum Outcome<'a> {
+    /// A reply: the bytes at the start of the reply buffer. No others were written.
+    Reply(&'a [u8]),
+    /// Nothing is to be sent, and the reply buffer is as it was.
+    Silence,
+    /// A function is to be run; the reply buffer is as it was.
+    Run {
+        /// Which one.
+        function: FunctionNumber,
+        /// The input, within the packet.
+        input: &'a [u8],
+        /// Whether an answer is due; it isn't after a multicast packet.
+        due: bool,
+    },
+    /// A local refusal; nothing was changed.
+    Refused(Refusal),
+}
+
+impl<'a> Outcome<'a> {
+    pub(crate) fn told(told: Told, request: &'a [u8], reply: &'a [u8]) -> Outcome<'a> {
+        let (input, length) = (told.input as usize, told.length as usize);
+        match told.kind {
+            Told::REPLY => Outcome::Reply(&reply[..length]),
+            Told::SILENCE => Outcome::Silence,
+            Told::RUN => Outcome::Run {
+                function: FunctionNumber(told.function as usize),
+                input: &request[input..input + length],
+                due: told.due,
+            },
+            _ => Outcome::Refused(Refusal::told(u64::from(told.refusal))),
+        }
+    }
+}
+
+/// How a function ran.
+#[derive(Clone, Copy, Debug, PartialEq, Eq)]
+pub enum Ran<'a> {
+    /// It gave this output: reply 51.
+    Gave(&'a [u8]),
+    /// It failed with this error byte: reply 53.
+    Failed(u8),
+}
+
+// Refusal 0 is none.
+pub(crate) fn done<T>(refusal: u64, number: T) -> Result<T, Refusal> {
+    if refusal == 0 {
+        Ok(number)
+    } else {
+        Err(Refusal::told(refusal))
+    }
+}
