@@ -1,0 +1,9 @@
+//! A BSMP node: one packet and a board's state give one outcome and the next state.
+
+mod board;
+mod node;
+mod numbers;
+
+pub use board::{Address, Groups, Table, Variable};
+pub use node::{board_store, function_result, packet, Outcome, Ran};
+pub use numbers::{read_signed, read_unsigned, write_signed, write_unsigned};
