@@ -1,5 +1,9 @@
 //! The proved library against an independent second node, and its laws on compiled code.
+pub mod boards;
+pub mod faults;
 pub mod guard;
+pub mod lent;
+pub mod packets;
 pub mod random;
 pub mod run;
 pub mod second;

@@ -1,0 +1,342 @@
+//! Every way in which 01's table of the board can be broken, by name.
+use crate::boards::fill_up;
+use crate::lent::{all_declared, Lent};
+use cruachvel::{Curve, Kind, Variable, MOST_BLOCKS, MOST_VARIABLES};
+
+type Change = Box<dyn Fn(&mut Lent) + Send + Sync>;
+
+/// One way to break a usable board.
+pub struct Fault {
+    pub name: String,
+    /// Whether the variable records are what is wrong, so that the readings see it too.
+    pub in_variables: bool,
+    prepare: Change,
+    spoil: Change,
+}
+
+impl Fault {
+    /// Brings a small usable board to where one more change breaks it; it is usable still.
+    pub fn prepare(&self, lent: &mut Lent) {
+        (self.prepare)(lent);
+        lent.refit();
+    }
+
+    /// That change.
+    pub fn spoil(&self, lent: &mut Lent) {
+        (self.spoil)(lent);
+    }
+}
+
+/// All of them.
+pub fn faults() -> Vec<Fault> {
+    let mut faults = Vec::new();
+    of_variables(&mut faults);
+    of_each_variable(&mut faults);
+    of_curves(&mut faults);
+    of_each_curve(&mut faults);
+    of_functions(&mut faults);
+    of_stores(&mut faults);
+    of_groups(&mut faults);
+    faults
+}
+
+fn add(
+    faults: &mut Vec<Fault>,
+    name: impl Into<String>,
+    prepare: impl Fn(&mut Lent) + Send + Sync + 'static,
+    spoil: impl Fn(&mut Lent) + Send + Sync + 'static,
+) {
+    faults.push(Fault {
+        name: name.into(),
+        in_variables: false,
+        prepare: Box::new(prepare),
+        spoil: Box::new(spoil),
+    });
+}
+
+// A wrong record is to be the only thing that is wrong, so the stores follow the records.
+fn add_records(
+    faults: &mut Vec<Fault>,
+    name: impl Into<String>,
+    prepare: impl Fn(&mut Lent) + Send + Sync + 'static,
+    spoil: impl Fn(&mut Lent) + Send + Sync + 'static,
+) {
+    add(faults, name, prepare, move |lent| {
+        spoil(lent);
+        lent.refit();
+    });
+}
+
+fn of_variables(faults: &mut Vec<Fault>) {
+    let start = faults.len();
+    let no_groups = |lent: &mut Lent| lent.groups.count = 0;
+    add_records(faults, "no variables", no_groups, |lent| {
+        lent.variables.clear()
+    });
+    let one_byte = Variable::writable(1, Kind::Plain);
+    let sixty_four = move |lent: &mut Lent| lent.variables.resize(MOST_VARIABLES, one_byte);
+    add_records(faults, "65 variables", sixty_four, move |lent| {
+        lent.variables.push(one_byte)
+    });
+    add_records(
+        faults,
+        "4,097 bytes of variables",
+        |lent| fill_up(&mut lent.variables),
+        |lent| {
+            let grows = lent.variables.iter_mut().rev().find(|v| v.size < 127);
+            if let Some(variable) = grows {
+                variable.size += 1;
+                variable.kind = Kind::Plain.number();
+            }
+        },
+    );
+    faults[start..]
+        .iter_mut()
+        .for_each(|fault| fault.in_variables = true);
+}
+
+// Where in a list a record stands that is to be wrong.
+const PLACES: [&str; 3] = ["first", "middle", "last"];
+
+fn place(which: usize, count: usize) -> usize {
+    [0, count / 2, count - 1][which]
+}
+
+fn of_each_variable(faults: &mut Vec<Fault>) {
+    let start = faults.len();
+    for which in 0..PLACES.len() {
+        for size in [0, 128, 255] {
+            variable_fault(
+                faults,
+                which,
+                format!("has {} bytes", size),
+                move |variable| {
+                    variable.size = size;
+                    variable.kind = Kind::Plain.number();
+                },
+            );
+        }
+        for kind in Kind::ALL.into_iter().skip(1) {
+            for size in [3, 5, 6, 7, 9, 16, 127] {
+                let name = format!("is a number ({:?}) of {} bytes", kind, size);
+                variable_fault(faults, which, name, move |variable| {
+                    variable.size = size;
+                    variable.kind = kind.number();
+                });
+            }
+        }
+        for writable in [2, 128, 255] {
+            let name = format!("has type {}", writable);
+            variable_fault(faults, which, name, move |variable| {
+                variable.writable = writable
+            });
+        }
+        for kind in [5, 128, 255] {
+            let name = format!("has kind {}", kind);
+            variable_fault(faults, which, name, move |variable| variable.kind = kind);
+        }
+    }
+    faults[start..]
+        .iter_mut()
+        .for_each(|fault| fault.in_variables = true);
+}
+
+fn variable_fault(
+    faults: &mut Vec<Fault>,
+    which: usize,
+    name: String,
+    spoil: impl Fn(&mut Variable) + Send + Sync + 'static,
+) {
+    let name = format!("the {} variable {}", PLACES[which], name);
+    add_records(
+        faults,
+        name,
+        |_| (),
+        move |lent| {
+            let at = place(which, lent.variables.len());
+            spoil(&mut lent.variables[at]);
+        },
+    );
+}
+
+fn with_curves(curves: &'static [Curve]) -> impl Fn(&mut Lent) + Send + Sync {
+    move |lent| lent.curves = Curve::numbers(curves).to_vec()
+}
+
+fn of_curves(faults: &mut Vec<Fault>) {
+    const EIGHT: [Curve; 8] = [Curve::writable(3, 5); 8];
+    let ninth = |lent: &mut Lent| lent.curves.extend([1, 3, 5]);
+    add_records(faults, "9 curves", with_curves(&EIGHT), ninth);
+    for cut in [1, 2] {
+        let name = format!("a curve record cut off after {} of its numbers", 3 - cut);
+        add_records(faults, name, with_curves(&EIGHT), move |lent| {
+            lent.curves.truncate(8 * 3 - cut)
+        });
+    }
+    const FULL: [Curve; 2] = [Curve::writable(4096, 15), Curve::read_only(1, 4096)];
+    let one_more = |lent: &mut Lent| lent.curves[5] += 1;
+    add_records(
+        faults,
+        "65,537 bytes of curves",
+        with_curves(&FULL),
+        one_more,
+    );
+    add_records(
+        faults,
+        "curves of 2^64 bytes, which 64 bits count as few",
+        with_curves(&EIGHT),
+        |lent| {
+            let huge = [1, u32::MAX, u32::MAX];
+            lent.curves = [huge, huge, [1, 1, 1]].concat();
+        },
+    );
+}
+
+fn of_each_curve(faults: &mut Vec<Fault>) {
+    let numbers: [(usize, &str, &[u32]); 3] = [
+        (0, "type", &[2, 256, u32::MAX]),
+        (1, "block size", &[0, 4097, 65536, u32::MAX]),
+        (
+            2,
+            "number of blocks",
+            &[0, MOST_BLOCKS as u32 + 1, 1 << 31, u32::MAX],
+        ),
+    ];
+    const THREE: [Curve; 3] = [
+        Curve::writable(1, 1),
+        Curve::read_only(1, 1),
+        Curve::writable(1, 1),
+    ];
+    for which in 0..PLACES.len() {
+        for (field, what, wrong) in numbers {
+            for &number in wrong {
+                let name = format!("the {} curve has {} {}", PLACES[which], what, number);
+                add_records(faults, name, with_curves(&THREE), move |lent| {
+                    lent.curves[which * 3 + field] = number
+                });
+            }
+        }
+        let name = format!(
+            "the {} curve has 65,536 blocks of 65,536 bytes",
+            PLACES[which]
+        );
+        add_records(faults, name, with_curves(&THREE), move |lent| {
+            lent.curves[which * 3 + 1] = 65536;
+            lent.curves[which * 3 + 2] = 65536;
+        });
+    }
+}
+
+fn of_functions(faults: &mut Vec<Fault>) {
+    let sixteen = |lent: &mut Lent| lent.functions.resize(16 * 2, 15);
+    add(faults, "17 functions", sixteen, |lent| {
+        lent.functions.extend([1, 1])
+    });
+    add(faults, "a function record cut off", sixteen, |lent| {
+        lent.functions.pop();
+    });
+    for (field, what) in ["input", "output"].into_iter().enumerate() {
+        for which in 0..PLACES.len() {
+            for bytes in [16, 255] {
+                let name = format!(
+                    "the {} function has {} bytes of {}",
+                    PLACES[which], bytes, what
+                );
+                add(faults, name, sixteen, move |lent| {
+                    lent.functions[place(which, 16) * 2 + field] = bytes
+                });
+            }
+        }
+    }
+}
+
+fn of_stores(faults: &mut Vec<Fault>) {
+    const ONE: [Curve; 1] = [Curve::writable(4, 2)];
+    add(
+        faults,
+        "the variables' store one byte short",
+        |_| (),
+        |lent| {
+            lent.values.pop();
+        },
+    );
+    add(
+        faults,
+        "the variables' store one byte long",
+        |_| (),
+        |lent| lent.values.push(0),
+    );
+    add(
+        faults,
+        "the variables' store empty",
+        |_| (),
+        |lent| lent.values.clear(),
+    );
+    add(
+        faults,
+        "the curves' store one byte short",
+        with_curves(&ONE),
+        |lent| {
+            lent.blocks.pop();
+        },
+    );
+    add(
+        faults,
+        "the curves' store one byte long",
+        with_curves(&ONE),
+        |lent| lent.blocks.push(0),
+    );
+    add(
+        faults,
+        "the curves' store empty",
+        with_curves(&ONE),
+        |lent| lent.blocks.clear(),
+    );
+    add(
+        faults,
+        "a curves' store without curves",
+        with_curves(&[]),
+        |lent| lent.blocks.push(0),
+    );
+    // Two wrongs that would even out if only the sum of both lengths were looked at.
+    add(
+        faults,
+        "a byte of one store in the other",
+        with_curves(&ONE),
+        |lent| {
+            lent.values.pop();
+            lent.blocks.push(0);
+        },
+    );
+}
+
+fn of_groups(faults: &mut Vec<Fault>) {
+    let five = |lent: &mut Lent| {
+        lent.groups.count = 5;
+        lent.groups.sets = [1; 5];
+    };
+    for count in [6, 7, 256, 1 << 32, u64::MAX] {
+        let name = format!("{} made groups", count);
+        add(faults, name, five, move |lent| lent.groups.count = count);
+    }
+    let last_unused = move |lent: &mut Lent| {
+        lent.variables.truncate(MOST_VARIABLES - 1);
+        five(lent);
+    };
+    for place in 0..5 {
+        let name = format!("group {} is empty", place + 3);
+        add(faults, name, five, move |lent| lent.groups.sets[place] = 0);
+        let name = format!("group {} has the variable after the last", place + 3);
+        add(faults, name, last_unused, move |lent| {
+            lent.groups.sets[place] |= 1 << lent.variables.len()
+        });
+        let name = format!("group {} has variable 63, which is not declared", place + 3);
+        add(faults, name, last_unused, move |lent| {
+            lent.groups.sets[place] |= 1 << 63
+        });
+        let name = format!("group {} has no declared variable", place + 3);
+        add(faults, name, last_unused, move |lent| {
+            lent.groups.sets[place] = !all_declared(lent.variables.len())
+        });
+    }
+}
