@@ -1,0 +1,201 @@
+//! Laws of 01 on compiled code, over random boards, right and wrong, and random packets: what each way to end may leave changed.
+use cruachvel::Outcome;
+use suite::boards::usable;
+use suite::faults::faults;
+use suite::lent::{members, Lent};
+use suite::packets::{message, packet, Drawer};
+use suite::random::Random;
+
+const BOARDS: usize = 400;
+const PACKETS: usize = 40;
+
+/// How a packet ended, by what it may have left behind.
+#[derive(Clone, Copy, Debug, PartialEq, Eq)]
+enum End {
+    Refused,
+    Error,
+    Answer,
+    Silence,
+    Run,
+}
+
+fn small_board(random: &mut Random) -> Lent {
+    let mut lent = usable(random);
+    while lent.blocks.len() > 4096 {
+        lent = usable(random);
+    }
+    lent
+}
+
+fn judge(outcome: Outcome) -> (End, usize) {
+    match outcome {
+        Outcome::Refused(_) => (End::Refused, 0),
+        Outcome::Reply(reply) if (0xE1..=0xE8).contains(&reply[1]) => (End::Error, reply.len()),
+        Outcome::Reply(reply) => (End::Answer, reply.len()),
+        Outcome::Silence => (End::Silence, 0),
+        Outcome::Run { .. } => (End::Run, 0),
+    }
+}
+
+// One packet; its destination decides whether it may be answered.
+fn obeys(random: &mut Random, lent: &mut Lent) -> End {
+    let before = lent.clone();
+    let groups = &before.groups;
+    let (request, draft) = Drawer {
+        random,
+        lent: &before,
+        groups,
+    }
+    .packet();
+    let mut reply = [0x5C; 4104];
+    let (end, length) = judge(lent.packet(draft.busy, &request, &mut reply));
+    let told = || format!("{:02X?} ended in {:?}", draft, end);
+    let sum = |bytes: &[u8]| bytes.iter().fold(0u8, |sum, byte| sum.wrapping_add(*byte));
+    let (written, rest) = reply.split_at(length);
+    assert!(
+        rest.iter().all(|byte| *byte == 0x5C),
+        "{}: a byte past the reply",
+        told()
+    );
+    assert!(
+        length == 0 || written[0] == 0,
+        "{}: a reply goes to destination 0",
+        told()
+    );
+    assert_eq!(sum(written), 0, "{}: a reply's bytes sum to 0", told());
+    if request[0] >= 248 {
+        assert!(
+            !matches!(end, End::Error | End::Answer),
+            "{}: a multicast was answered",
+            told()
+        );
+    }
+    if matches!(end, End::Refused | End::Error | End::Run) {
+        assert_eq!(*lent, before, "{}: something changed", told());
+    }
+    end
+}
+
+#[test]
+fn a_packet_leaves_what_its_ending_allows() {
+    let mut random = Random::new(21);
+    let faults = faults();
+    let mut ends = Vec::new();
+    for board in 0..BOARDS {
+        let mut lent = small_board(&mut random);
+        if board % 10 == 0 {
+            let fault = &faults[random.below(faults.len())];
+            fault.prepare(&mut lent);
+            fault.spoil(&mut lent);
+        }
+        ends.extend((0..PACKETS).map(|_| obeys(&mut random, &mut lent)));
+    }
+    for end in [
+        End::Refused,
+        End::Error,
+        End::Answer,
+        End::Silence,
+        End::Run,
+    ] {
+        assert!(ends.contains(&end), "no packet ended in {:?}", end);
+    }
+}
+
+#[test]
+fn a_board_store_changes_the_bytes_of_that_variable_alone() {
+    let mut random = Random::new(22);
+    for _ in 0..BOARDS {
+        let mut lent = small_board(&mut random);
+        let variable = random.below(lent.variables.len());
+        let bytes = random.bytes(lent.variables[variable].size.into());
+        let mut expected = lent.clone();
+        expected.values.splice(lent.place(variable), bytes.clone());
+        assert_eq!(lent.board_store(variable, &bytes), Ok(()));
+        assert_eq!(lent, expected);
+    }
+}
+
+#[test]
+fn a_group_write_stores_all_members_or_none() {
+    let mut random = Random::new(23);
+    let (mut stored, mut stopped) = (0, 0);
+    for _ in 0..BOARDS {
+        let mut lent = small_board(&mut random);
+        let set = lent.group_sets(&lent.groups)[2];
+        let values = random.bytes(lent.set_bytes(set));
+        let busy = 1 << random.below(64);
+        let request = packet(
+            lent.address.own,
+            &message(0x22, &[&[2], &values[..]].concat()),
+        );
+        let before = lent.clone();
+        let mut reply = [0; 4104];
+        let answer = match lent.packet(busy, &request, &mut reply) {
+            Outcome::Reply(reply) => reply[1],
+            other => panic!("{:?}", other),
+        };
+        let mut expected = before.clone();
+        if busy & set == 0 {
+            let mut rest = &values[..];
+            for variable in members(set) {
+                let (value, others) = rest.split_at(lent.variables[variable].size.into());
+                expected.values[lent.place(variable)].copy_from_slice(value);
+                rest = others;
+            }
+            stored += 1;
+        } else {
+            stopped += 1;
+        }
+        assert_eq!(answer, if busy & set == 0 { 0xE0 } else { 0xE8 });
+        assert_eq!(lent, expected);
+    }
+    assert!(
+        stored > 0 && stopped > 0,
+        "{} stored, {} stopped",
+        stored,
+        stopped
+    );
+}
+
+#[test]
+fn what_was_written_is_read() {
+    let mut random = Random::new(24);
+    for _ in 0..BOARDS {
+        let mut lent = small_board(&mut random);
+        let variable = random.below(lent.variables.len());
+        lent.variables[variable].writable = 1;
+        let value = random.bytes(lent.variables[variable].size.into());
+        let number = variable as u8;
+        let written = lent.ask(&message(0x20, &[&[number], &value[..]].concat()));
+        assert_eq!(written, [0xE0, 0, 0]);
+        assert_eq!(lent.ask(&message(0x10, &[number])), message(0x11, &value));
+        let other = random.bytes(value.len());
+        let answer = lent.ask(&message(0x28, &[&[number, number], &other[..]].concat()));
+        assert_eq!(answer, message(0x11, &other), "28 answers after the write");
+    }
+}
+
+#[test]
+fn groups_3_to_7_come_and_go_and_0_to_2_stay() {
+    let mut random = Random::new(25);
+    for _ in 0..BOARDS / 10 {
+        let mut lent = small_board(&mut random);
+        lent.groups.count = 0;
+        let standard = lent.ask(&message(0x04, &[]));
+        for made in 0..7 {
+            let answer = lent.ask(&message(0x30, &[0]));
+            assert_eq!(
+                answer[0],
+                if made < 5 { 0xE0 } else { 0xE7 },
+                "group {}",
+                made + 3
+            );
+        }
+        assert_eq!(lent.ask(&message(0x06, &[7])), message(0x07, &[0]));
+        let places = lent.groups.sets;
+        assert_eq!(lent.ask(&message(0x32, &[])), [0xE0, 0, 0]);
+        assert_eq!((lent.groups.count, lent.groups.sets), (0, places));
+        assert_eq!(lent.ask(&message(0x04, &[])), standard);
+        assert_eq!(lent.ask(&message(0x06, &[3])), [0xE3, 0, 0]);
+    }
+}
