@@ -131,16 +131,7 @@ pub fn read_signed(
     variable: VariableNumber,
     bytes: &[u8],
 ) -> Result<i64, Refusal> {
-    // SAFETY: as for `packet`.
-    let told = unsafe {
-        raw::bsmp_read_signed(
-            variables.as_ptr(),
-            variables.len(),
-            variable.0 as u64,
-            bytes.as_ptr(),
-            bytes.len(),
-        )
-    };
+    let told = read(raw::bsmp_read_signed, variables, variable, bytes);
     done(told.refusal, told.number)
 }
 
@@ -150,16 +141,7 @@ pub fn read_unsigned(
     variable: VariableNumber,
     bytes: &[u8],
 ) -> Result<u64, Refusal> {
-    // SAFETY: as for `packet`.
-    let told = unsafe {
-        raw::bsmp_read_unsigned(
-            variables.as_ptr(),
-            variables.len(),
-            variable.0 as u64,
-            bytes.as_ptr(),
-            bytes.len(),
-        )
-    };
+    let told = read(raw::bsmp_read_unsigned, variables, variable, bytes);
     done(told.refusal, told.number)
 }
 
@@ -170,18 +152,7 @@ pub fn write_signed(
     number: i64,
     buffer: &mut [u8],
 ) -> Result<(), Refusal> {
-    // SAFETY: as for `packet`.
-    let refusal = unsafe {
-        raw::bsmp_write_signed(
-            variables.as_ptr(),
-            variables.len(),
-            variable.0 as u64,
-            number,
-            buffer.as_mut_ptr(),
-            buffer.len(),
-        )
-    };
-    done(refusal.into(), ())
+    write(raw::bsmp_write_signed, variables, variable, number, buffer)
 }
 
 /// Writes a number as an unsigned variable's bytes: the only bytes that read as it. Refusals 1, 9, 11, 10 and 12.
@@ -191,9 +162,46 @@ pub fn write_unsigned(
     number: u64,
     buffer: &mut [u8],
 ) -> Result<(), Refusal> {
+    write(
+        raw::bsmp_write_unsigned,
+        variables,
+        variable,
+        number,
+        buffer,
+    )
+}
+
+// One of the two readings.
+fn read<T>(
+    entry: unsafe extern "C" fn(*const Variable, usize, u64, *const u8, usize) -> T,
+    variables: &[Variable],
+    variable: VariableNumber,
+    bytes: &[u8],
+) -> T {
+    let (number, count) = (variable.0 as u64, variables.len());
+    // SAFETY: as for `packet`.
+    unsafe {
+        entry(
+            variables.as_ptr(),
+            count,
+            number,
+            bytes.as_ptr(),
+            bytes.len(),
+        )
+    }
+}
+
+// One of the two ways back.
+fn write<N>(
+    entry: unsafe extern "C" fn(*const Variable, usize, u64, N, *mut u8, usize) -> u8,
+    variables: &[Variable],
+    variable: VariableNumber,
+    number: N,
+    buffer: &mut [u8],
+) -> Result<(), Refusal> {
     // SAFETY: as for `packet`.
     let refusal = unsafe {
-        raw::bsmp_write_unsigned(
+        entry(
             variables.as_ptr(),
             variables.len(),
             variable.0 as u64,

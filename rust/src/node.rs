@@ -1,6 +1,7 @@
 //! A node that owns its board, its state and its reply buffer.
 use crate::{
-    entries, Board, FunctionNumber, Groups, Outcome, Ran, Refusal, VariableNumber, MOST_PACKET,
+    entries, Board, FunctionNumber, Groups, Outcome, Ran, Refusal, Variable, VariableNumber,
+    MOST_PACKET,
 };
 
 /// A board's state, which one call leaves to the next.
@@ -61,6 +62,9 @@ pub struct Node {
     pub busy: u64,
     reply: Box<[u8]>,
 }
+
+// One of the two entries that write a number as a variable's bytes.
+type Write<N> = fn(&[Variable], VariableNumber, N, &mut [u8]) -> Result<(), Refusal>;
 
 impl Node {
     /// A node whose stores hold zeros.
@@ -126,18 +130,12 @@ impl Node {
 
     /// Stores a number into a signed variable. Refusals 1, 9, 11 and 12.
     pub fn store_signed(&mut self, variable: VariableNumber, number: i64) -> Result<(), Refusal> {
-        let mut buffer = [0; u8::MAX as usize];
-        let bytes = &mut buffer[..self.size(variable)];
-        entries::write_signed(&self.board.variables, variable, number, bytes)?;
-        self.store(variable, bytes)
+        self.store_number(entries::write_signed, variable, number)
     }
 
     /// Stores a number into an unsigned variable. Refusals 1, 9, 11 and 12.
     pub fn store_unsigned(&mut self, variable: VariableNumber, number: u64) -> Result<(), Refusal> {
-        let mut buffer = [0; u8::MAX as usize];
-        let bytes = &mut buffer[..self.size(variable)];
-        entries::write_unsigned(&self.board.variables, variable, number, bytes)?;
-        self.store(variable, bytes)
+        self.store_number(entries::write_unsigned, variable, number)
     }
 
     /// Reads a signed variable's bytes, as a reply carries them, as a number. Refusals 1, 9, 11 and 10.
@@ -155,9 +153,18 @@ impl Node {
         self.state.values.get(self.board.place(variable)?)
     }
 
-    // A variable that the board lacks has no size; the entry that is asked then refuses with 9.
-    fn size(&self, variable: VariableNumber) -> usize {
+    fn store_number<N>(
+        &mut self,
+        write: Write<N>,
+        variable: VariableNumber,
+        number: N,
+    ) -> Result<(), Refusal> {
+        // A variable that the board lacks has no size; the entry then refuses with 9.
         let record = self.board.variables.get(variable.0);
-        record.map_or(0, |record| usize::from(record.size))
+        let size = record.map_or(0, |record| usize::from(record.size));
+        let mut buffer = [0; u8::MAX as usize];
+        let bytes = &mut buffer[..size];
+        write(&self.board.variables, variable, number, bytes)?;
+        self.store(variable, bytes)
     }
 }

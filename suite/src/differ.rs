@@ -256,12 +256,22 @@ impl Proved {
     }
 }
 
-// The second node's side, in memory of its own.
+// The second node's side, in memory of its own: the records as they were lent, and the state as it is by now.
 struct Second {
     lent: Lent,
     variables: Vec<second::Variable>,
     groups: second::Groups,
+    values: Vec<u8>,
+    blocks: Vec<u8>,
     buffer: Vec<u8>,
+}
+
+fn second_table<'a>(variables: &'a [second::Variable], lent: &'a Lent) -> second::Table<'a> {
+    second::Table {
+        variables,
+        curves: &lent.curves,
+        functions: &lent.functions,
+    }
 }
 
 impl Second {
@@ -277,57 +287,63 @@ impl Second {
                 count: lent.groups.count,
                 sets: lent.groups.sets,
             },
+            values: lent.values.clone(),
+            blocks: lent.blocks.clone(),
             lent: lent.clone(),
             buffer: Vec::new(),
         }
     }
 
     fn call(&mut self, entry: &Entry, given: &[u8]) -> Ending {
-        let lent = &mut self.lent;
-        let variables = &self.variables;
-        let table = second::Table {
-            variables,
-            curves: &lent.curves,
-            functions: &lent.functions,
-        };
         match *entry {
-            Entry::Packet { busy, .. } => Ending::of_second(second::packet(
-                &table,
-                &mut self.groups,
-                second::Address {
-                    own: lent.address.own,
-                    multicast: lent.address.multicast,
-                },
-                busy,
-                &mut lent.values,
-                &mut lent.blocks,
-                given,
-                &mut self.buffer,
-            )),
-            Entry::Result { function, due, ran } => Ending::of_second(second::function_result(
-                &table,
-                &self.groups,
-                &lent.values,
-                &lent.blocks,
-                function,
-                due,
-                ran,
-                given,
-                &mut self.buffer,
-            )),
-            Entry::Store { variable } => Ending::of_second_result(
-                second::board_store(
-                    &table,
-                    &self.groups,
-                    &mut lent.values,
-                    &lent.blocks,
-                    variable,
-                    given,
-                ),
-                |()| Ending::Done,
-            ),
+            Entry::Packet { busy, .. } => self.packet(busy, given),
+            Entry::Result { function, due, ran } => self.result(function, due, ran, given),
+            Entry::Store { variable } => self.store(variable, given),
             _ => self.number(entry, given),
         }
+    }
+
+    fn packet(&mut self, busy: u64, request: &[u8]) -> Ending {
+        let address = second::Address {
+            own: self.lent.address.own,
+            multicast: self.lent.address.multicast,
+        };
+        Ending::of_second(second::packet(
+            &second_table(&self.variables, &self.lent),
+            &mut self.groups,
+            address,
+            busy,
+            &mut self.values,
+            &mut self.blocks,
+            request,
+            &mut self.buffer,
+        ))
+    }
+
+    fn result(&mut self, function: usize, due: bool, ran: second::Ran, output: &[u8]) -> Ending {
+        Ending::of_second(second::function_result(
+            &second_table(&self.variables, &self.lent),
+            &self.groups,
+            &self.values,
+            &self.blocks,
+            function,
+            due,
+            ran,
+            output,
+            &mut self.buffer,
+        ))
+    }
+
+    fn store(&mut self, variable: usize, bytes: &[u8]) -> Ending {
+        let stored = second::board_store(
+            &second_table(&self.variables, &self.lent),
+            &self.groups,
+            &mut self.values,
+            &self.blocks,
+            variable,
+            bytes,
+        );
+        Ending::of_second_result(stored, |()| Ending::Done)
     }
 
     fn number(&mut self, entry: &Entry, given: &[u8]) -> Ending {
@@ -552,8 +568,8 @@ impl Differ {
             lent.table(),
             lent.address.own,
             lent.address.multicast,
-            lent.values.len(),
-            lent.blocks.len(),
+            second.values.len(),
+            second.blocks.len(),
             call,
             told,
             proved.groups[0],
@@ -561,12 +577,12 @@ impl Differ {
             start(&proved.buffer),
             ending,
             second.groups(),
-            lent.values,
+            second.values,
             start(&second.buffer),
             proved
                 .blocks
                 .iter()
-                .zip(&lent.blocks)
+                .zip(&second.blocks)
                 .position(|(a, b)| a != b),
         ))
     }
@@ -586,7 +602,6 @@ impl Proved {
         told: &Ending,
         ending: &Ending,
     ) -> Option<&'static str> {
-        let lent = &second.lent;
         [
             ("how the call ended", told == ending),
             (
@@ -594,8 +609,8 @@ impl Proved {
                 self.buffer[..] == second.buffer[..],
             ),
             ("the group table", self.groups[0] == second.groups()),
-            ("the variables' store", self.values[..] == lent.values[..]),
-            ("the curves' store", self.blocks[..] == lent.blocks[..]),
+            ("the variables' store", self.values[..] == second.values[..]),
+            ("the curves' store", self.blocks[..] == second.blocks[..]),
             ("the bytes given", self.given[..] == call.given[..]),
         ]
         .iter()

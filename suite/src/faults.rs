@@ -95,20 +95,33 @@ fn of_variables(faults: &mut Vec<Fault>) {
         .for_each(|fault| fault.in_variables = true);
 }
 
-// Where in a list a record stands that is to be wrong.
-const PLACES: [&str; 3] = ["first", "middle", "last"];
+// Where in a list the record stands that is to be wrong.
+#[derive(Clone, Copy, Debug)]
+enum Place {
+    First,
+    Middle,
+    Last,
+}
 
-fn place(which: usize, count: usize) -> usize {
-    [0, count / 2, count - 1][which]
+impl Place {
+    const ALL: [Place; 3] = [Place::First, Place::Middle, Place::Last];
+
+    fn of(self, count: usize) -> usize {
+        match self {
+            Place::First => 0,
+            Place::Middle => count / 2,
+            Place::Last => count - 1,
+        }
+    }
 }
 
 fn of_each_variable(faults: &mut Vec<Fault>) {
     let start = faults.len();
-    for which in 0..PLACES.len() {
+    for place in Place::ALL {
         for size in [0, 128, 255] {
             variable_fault(
                 faults,
-                which,
+                place,
                 format!("has {} bytes", size),
                 move |variable| {
                     variable.size = size;
@@ -119,7 +132,7 @@ fn of_each_variable(faults: &mut Vec<Fault>) {
         for kind in Kind::ALL.into_iter().skip(1) {
             for size in [3, 5, 6, 7, 9, 16, 127] {
                 let name = format!("is a number ({:?}) of {} bytes", kind, size);
-                variable_fault(faults, which, name, move |variable| {
+                variable_fault(faults, place, name, move |variable| {
                     variable.size = size;
                     variable.kind = kind.number();
                 });
@@ -127,13 +140,13 @@ fn of_each_variable(faults: &mut Vec<Fault>) {
         }
         for writable in [2, 128, 255] {
             let name = format!("has type {}", writable);
-            variable_fault(faults, which, name, move |variable| {
+            variable_fault(faults, place, name, move |variable| {
                 variable.writable = writable
             });
         }
         for kind in [5, 128, 255] {
             let name = format!("has kind {}", kind);
-            variable_fault(faults, which, name, move |variable| variable.kind = kind);
+            variable_fault(faults, place, name, move |variable| variable.kind = kind);
         }
     }
     faults[start..]
@@ -143,17 +156,17 @@ fn of_each_variable(faults: &mut Vec<Fault>) {
 
 fn variable_fault(
     faults: &mut Vec<Fault>,
-    which: usize,
+    place: Place,
     name: String,
     spoil: impl Fn(&mut Variable) + Send + Sync + 'static,
 ) {
-    let name = format!("the {} variable {}", PLACES[which], name);
+    let name = format!("variable {:?} {}", place, name);
     add_records(
         faults,
         name,
         |_| (),
         move |lent| {
-            let at = place(which, lent.variables.len());
+            let at = place.of(lent.variables.len());
             spoil(&mut lent.variables[at]);
         },
     );
@@ -207,22 +220,19 @@ fn of_each_curve(faults: &mut Vec<Fault>) {
         Curve::read_only(1, 1),
         Curve::writable(1, 1),
     ];
-    for which in 0..PLACES.len() {
+    for place in Place::ALL {
         for (field, what, wrong) in numbers {
             for &number in wrong {
-                let name = format!("the {} curve has {} {}", PLACES[which], what, number);
+                let name = format!("curve {:?} has {} {}", place, what, number);
                 add_records(faults, name, with_curves(&THREE), move |lent| {
-                    lent.curves[which * 3 + field] = number
+                    lent.curves[place.of(3) * 3 + field] = number
                 });
             }
         }
-        let name = format!(
-            "the {} curve has 65,536 blocks of 65,536 bytes",
-            PLACES[which]
-        );
+        let name = format!("curve {:?} has 65,536 blocks of 65,536 bytes", place);
         add_records(faults, name, with_curves(&THREE), move |lent| {
-            lent.curves[which * 3 + 1] = 65536;
-            lent.curves[which * 3 + 2] = 65536;
+            let start = place.of(3) * 3;
+            lent.curves[start + 1..start + 3].fill(65536);
         });
     }
 }
@@ -236,14 +246,11 @@ fn of_functions(faults: &mut Vec<Fault>) {
         lent.functions.pop();
     });
     for (field, what) in ["input", "output"].into_iter().enumerate() {
-        for which in 0..PLACES.len() {
+        for place in Place::ALL {
             for bytes in [16, 255] {
-                let name = format!(
-                    "the {} function has {} bytes of {}",
-                    PLACES[which], bytes, what
-                );
+                let name = format!("function {:?} has {} bytes of {}", place, bytes, what);
                 add(faults, name, sixteen, move |lent| {
-                    lent.functions[place(which, 16) * 2 + field] = bytes
+                    lent.functions[place.of(16) * 2 + field] = bytes
                 });
             }
         }
@@ -251,62 +258,37 @@ fn of_functions(faults: &mut Vec<Fault>) {
 }
 
 fn of_stores(faults: &mut Vec<Fault>) {
+    type Store = fn(&mut Lent) -> &mut Vec<u8>;
+    let stores: [(&str, Store); 2] = [
+        ("variables'", |lent| &mut lent.values),
+        ("curves'", |lent| &mut lent.blocks),
+    ];
     const ONE: [Curve; 1] = [Curve::writable(4, 2)];
-    add(
-        faults,
-        "the variables' store one byte short",
-        |_| (),
-        |lent| {
-            lent.values.pop();
-        },
-    );
-    add(
-        faults,
-        "the variables' store one byte long",
-        |_| (),
-        |lent| lent.values.push(0),
-    );
-    add(
-        faults,
-        "the variables' store empty",
-        |_| (),
-        |lent| lent.values.clear(),
-    );
-    add(
-        faults,
-        "the curves' store one byte short",
-        with_curves(&ONE),
-        |lent| {
-            lent.blocks.pop();
-        },
-    );
-    add(
-        faults,
-        "the curves' store one byte long",
-        with_curves(&ONE),
-        |lent| lent.blocks.push(0),
-    );
-    add(
-        faults,
-        "the curves' store empty",
-        with_curves(&ONE),
-        |lent| lent.blocks.clear(),
-    );
+    for (name, store) in stores {
+        let named = |how: &str| format!("the {} store {}", name, how);
+        let shorter = move |lent: &mut Lent| {
+            store(lent).pop();
+        };
+        add(faults, named("one byte short"), with_curves(&ONE), shorter);
+        let longer = move |lent: &mut Lent| store(lent).push(0);
+        add(faults, named("one byte long"), with_curves(&ONE), longer);
+        let empty = move |lent: &mut Lent| store(lent).clear();
+        add(faults, named("empty"), with_curves(&ONE), empty);
+    }
+    let one = |lent: &mut Lent| lent.blocks.push(0);
     add(
         faults,
         "a curves' store without curves",
         with_curves(&[]),
-        |lent| lent.blocks.push(0),
+        one,
     );
     // Two wrongs that would even out if only the sum of both lengths were looked at.
+    let moved = |lent: &mut Lent| lent.blocks.extend(lent.values.pop());
     add(
         faults,
         "a byte of one store in the other",
         with_curves(&ONE),
-        |lent| {
-            lent.values.pop();
-            lent.blocks.push(0);
-        },
+        moved,
     );
 }
 

@@ -1,7 +1,7 @@
 //! Memory between two pages that nothing may touch: a read or a write past the slice's edge ends the program.
 use std::ffi::c_void;
 use std::marker::PhantomData;
-use std::mem::size_of;
+use std::mem::{size_of, size_of_val};
 use std::ops::{Deref, DerefMut};
 
 const PAGE: usize = 4096;
@@ -82,7 +82,7 @@ impl<T: Copy> Guarded<T> {
 
     /// Holds these elements from now on, at that edge.
     pub fn put(&mut self, edge: Edge, items: &[T]) {
-        let bytes = items.len() * size_of::<T>();
+        let bytes = size_of_val(items);
         assert!(
             bytes <= self.room,
             "{} bytes in a room of {}",

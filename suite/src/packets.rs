@@ -96,11 +96,16 @@ pub struct Drawer<'a> {
     pub groups: &'a Groups,
 }
 
-// A thing that a message names: the number of bytes that belong to it, whether it can be written, and its variables.
+// A thing that a message names: whether it can be written, and the variables that it stands for.
 #[derive(Clone, Copy)]
 struct Thing {
-    bytes: usize,
     writable: bool,
+    set: u64,
+}
+
+// What a message has to know of the thing that it names: its bytes, and the variables that it stands for.
+struct Named {
+    bytes: usize,
     set: u64,
 }
 
@@ -227,8 +232,9 @@ impl Drawer<'_> {
 
     fn block(&mut self, command: u8, wrongs: &[Wrong]) -> Vec<u8> {
         let (number, thing) = self.named(command, wrongs);
-        let record = self.lent.curves.chunks_exact(3).nth(number.into());
-        let blocks = record.map_or(1, |record| record[2] as usize);
+        let blocks = self
+            .curve(number.into())
+            .map_or(1, |record| record[2] as usize);
         let block = if wrongs.contains(&Wrong::Value) {
             self.random.choose(&[blocks, blocks + 1, 0xFFFF])
         } else {
@@ -276,8 +282,9 @@ impl Drawer<'_> {
         numbers
     }
 
-    // The number of a thing of the command's sort, and the thing.
-    fn named(&mut self, command: u8, wrongs: &[Wrong]) -> (u8, Thing) {
+    // The number of a thing of the command's sort, and what is to be known of it. With a number that doesn't exist, the rest of the
+    // message is as for one that does.
+    fn named(&mut self, command: u8, wrongs: &[Wrong]) -> (u8, Named) {
         let things = self.things(command);
         let wanted = !wrongs.contains(&Wrong::ReadOnly);
         let start = self.random.below(things.len());
@@ -286,16 +293,28 @@ impl Drawer<'_> {
             .find(|number| things[*number].writable == wanted)
             .filter(|_| !matches!(command, 0x06 | 0x10 | 0x12 | 0x40))
             .unwrap_or(start);
-        let nothing = Thing {
-            bytes: 3,
-            writable: true,
-            set: 0,
-        };
-        let thing = things.get(number).copied().unwrap_or(nothing);
+        let set = things.get(number).map_or(0, |thing| thing.set);
+        let bytes = self.bytes(command, number, set);
         if wrongs.contains(&Wrong::Number) {
-            return (self.unknown(things.len()), thing);
+            return (self.unknown(things.len()), Named { bytes, set });
         }
-        (number as u8, thing)
+        (number as u8, Named { bytes, set })
+    }
+
+    // How many bytes belong to a thing: the values of its variables, a block, or a function's input.
+    fn bytes(&self, command: u8, number: usize, set: u64) -> usize {
+        match command {
+            0x40 | 0x41 => self.curve(number).map_or(0, |record| record[1] as usize),
+            0x50 => {
+                let record = self.lent.functions.chunks_exact(2).nth(number);
+                record.map_or(0, |record| record[0].into())
+            }
+            _ => self.lent.set_bytes(set),
+        }
+    }
+
+    fn curve(&self, number: usize) -> Option<&[u32]> {
+        self.lent.curves.chunks_exact(3).nth(number)
     }
 
     fn things(&self, command: u8) -> Vec<Thing> {
@@ -309,7 +328,6 @@ impl Drawer<'_> {
 
     fn variables(&self) -> Vec<Thing> {
         let thing = |(number, variable): (usize, &cruachvel::Variable)| Thing {
-            bytes: variable.size.into(),
             writable: variable.writable == 1,
             set: 1 << (number % 64),
         };
@@ -320,7 +338,6 @@ impl Drawer<'_> {
         let sets = self.lent.group_sets(self.groups);
         let read_only = sets[1];
         let thing = |(number, &set): (usize, &u64)| Thing {
-            bytes: self.lent.set_bytes(set),
             writable: number != 1 && set & read_only == 0,
             set,
         };
@@ -329,7 +346,6 @@ impl Drawer<'_> {
 
     fn curves(&self) -> Vec<Thing> {
         let thing = |record: &[u32]| Thing {
-            bytes: record[1] as usize,
             writable: record[0] == 1,
             set: 0,
         };
@@ -337,8 +353,7 @@ impl Drawer<'_> {
     }
 
     fn functions(&self) -> Vec<Thing> {
-        let thing = |record: &[u8]| Thing {
-            bytes: record[0].into(),
+        let thing = |_| Thing {
             writable: true,
             set: 0,
         };

@@ -5,7 +5,7 @@ use suite::lent::Lent;
 use suite::packets::{packet, Draft, Drawer, Wrong, COMMANDS};
 use suite::random::Random;
 
-const TRIES: usize = 200;
+const TRIES: usize = 60;
 
 // Of every sort one thing that can be written and one that can't, so that any error can be had without another.
 fn rich_board() -> Lent {

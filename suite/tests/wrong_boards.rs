@@ -1,5 +1,6 @@
 //! Every way 01 names in which what is lent can be wrong, for each entry that looks at it: the refusal's number, and nothing lent is
 //! changed. Each is refused for that reason only: without it, the same call is accepted.
+use cruachvel::{read_signed, read_unsigned, write_signed, write_unsigned};
 use cruachvel::{Curve, Groups, Kind, Outcome, Ran, Refusal, Variable, VariableNumber};
 use suite::boards::{board_a, fill_up};
 use suite::faults::faults;
@@ -40,45 +41,28 @@ fn number_of<T>(result: Result<T, Refusal>) -> Option<u8> {
     result.err().map(Refusal::number)
 }
 
+fn call(lent: &mut Lent, entry: Entry, buffer: &mut [u8]) -> Option<u8> {
+    let request = packet(lent.address.own, &message(VERSION, &[]));
+    let (signed, unsigned) = (VariableNumber(0), VariableNumber(2));
+    let variables = &lent.variables;
+    match entry {
+        Entry::Packet => refused(lent.packet(0, &request, buffer)),
+        Entry::FunctionResult => refused(lent.function_result(0, true, Ran::Gave(&[1, 2]), buffer)),
+        Entry::BoardStore => number_of(lent.board_store(0, &[1, 2, 3, 4])),
+        Entry::ReadSigned => number_of(read_signed(variables, signed, &[1, 2, 3, 4])),
+        Entry::ReadUnsigned => number_of(read_unsigned(variables, unsigned, &[1, 2])),
+        Entry::WriteSigned => number_of(write_signed(variables, signed, -3, &mut buffer[..4])),
+        Entry::WriteUnsigned => number_of(write_unsigned(variables, unsigned, 3, &mut buffer[..2])),
+    }
+}
+
 // The refusal of that call, if it is refused; a refusal must have changed no byte of anything lent.
 fn refusal(lent: &Lent, entry: Entry) -> Option<u8> {
-    let mut after = lent.clone();
-    let mut buffer = [FILLING; 4104];
-    let request = packet(lent.address.own, &message(VERSION, &[]));
-    let (first, third) = (VariableNumber(0), VariableNumber(2));
-    let variables = &lent.variables;
-    let number = match entry {
-        Entry::Packet => refused(after.packet(0, &request, &mut buffer)),
-        Entry::FunctionResult => {
-            refused(after.function_result(0, true, Ran::Gave(&[1, 2]), &mut buffer))
-        }
-        Entry::BoardStore => number_of(after.board_store(0, &[1, 2, 3, 4])),
-        Entry::ReadSigned => number_of(cruachvel::read_signed(variables, first, &[1, 2, 3, 4])),
-        Entry::ReadUnsigned => number_of(cruachvel::read_unsigned(variables, third, &[1, 2])),
-        Entry::WriteSigned => number_of(cruachvel::write_signed(
-            variables,
-            first,
-            -3,
-            &mut buffer[..4],
-        )),
-        Entry::WriteUnsigned => number_of(cruachvel::write_unsigned(
-            variables,
-            third,
-            3,
-            &mut buffer[..2],
-        )),
-    };
+    let (mut after, mut buffer) = (lent.clone(), [FILLING; 4104]);
+    let number = call(&mut after, entry, &mut buffer);
     if number.is_some() {
-        assert_eq!(
-            &after, lent,
-            "{:?} was refused and changed what was lent",
-            entry
-        );
-        assert_eq!(
-            buffer, [FILLING; 4104],
-            "{:?} was refused and wrote to its buffer",
-            entry
-        );
+        assert_eq!(&after, lent, "{:?} changed what was lent", entry);
+        assert_eq!(buffer, [FILLING; 4104], "{:?} wrote to its buffer", entry);
     }
     number
 }
@@ -487,37 +471,23 @@ fn wrong_kind_comes_before_wrong_byte_count_in_readings() {
         let is = |place: usize| wrong >> place & 1 == 1;
         let mut lent = board_a();
         break_table(&mut lent, is(0));
-        let length = if is(3) { 5 } else { 4 };
-        let variable = if is(1) { 3 } else { 0 };
-        let number = if is(4) { 1 << 31 } else { 1 };
-        let (variables, variable) = (&lent.variables, VariableNumber(variable));
         let (bytes, mut buffer) = ([1; 5], [FILLING; 5]);
-        let buffer = &mut buffer[..length];
+        let length = if is(3) { 5 } else { 4 };
+        let (bytes, buffer) = (&bytes[..length], &mut buffer[..length]);
+        let number = if is(4) { 1 << 31 } else { 1 };
+        let (variables, variable) = (&lent.variables, VariableNumber(if is(1) { 3 } else { 0 }));
         // Variable 0 is signed, so asking for an unsigned number is the wrong kind.
         let (read, written) = if is(2) {
-            (
-                number_of(cruachvel::read_unsigned(
-                    variables,
-                    variable,
-                    &bytes[..length],
-                )),
-                number_of(cruachvel::write_unsigned(
-                    variables,
-                    variable,
-                    number as u64,
-                    buffer,
-                )),
-            )
+            let read = number_of(read_unsigned(variables, variable, bytes));
+            (read, write_unsigned(variables, variable, number, buffer))
         } else {
+            let read = number_of(read_signed(variables, variable, bytes));
             (
-                number_of(cruachvel::read_signed(
-                    variables,
-                    variable,
-                    &bytes[..length],
-                )),
-                number_of(cruachvel::write_signed(variables, variable, number, buffer)),
+                read,
+                write_signed(variables, variable, number as i64, buffer),
             )
         };
+        let written = number_of(written);
         assert_eq!(read, first_of(&[1, 9, 11, 10], wrong), "{:05b}", wrong);
         assert_eq!(
             written,
