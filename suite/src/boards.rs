@@ -88,14 +88,14 @@ fn variable(random: &mut Random, size: u8, writable: u8) -> Variable {
 
 /// More variables, and then larger ones, until they have exactly 4,096 bytes together. The first are the last to grow.
 pub fn fill_up(variables: &mut Vec<Variable>) {
-    let mut left = MOST_VALUES - values_length(variables);
+    let mut left = MOST_VALUES.saturating_sub(values_length(variables));
     while left > 0 && variables.len() < MOST_VARIABLES {
         let size = left.min(127);
         variables.push(Variable::writable(size as u8, Kind::Plain));
         left -= size;
     }
     for variable in variables.iter_mut().rev() {
-        let more = left.min(127 - usize::from(variable.size));
+        let more = left.min(127_usize.saturating_sub(variable.size.into()));
         if more > 0 {
             variable.size += more as u8;
             variable.kind = Kind::Plain.number();

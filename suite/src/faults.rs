@@ -27,17 +27,28 @@ impl Fault {
     }
 }
 
-/// All of them.
+/// All of them, by what is wrong: the list of variables, one of them, the list of curves, one of them, functions, stores, groups.
+pub fn sorts_of_faults() -> Vec<Vec<Fault>> {
+    let makers: [fn(&mut Vec<Fault>); 7] = [
+        of_variables,
+        of_each_variable,
+        of_curves,
+        of_each_curve,
+        of_functions,
+        of_stores,
+        of_groups,
+    ];
+    let made = |maker: fn(&mut Vec<Fault>)| {
+        let mut faults = Vec::new();
+        maker(&mut faults);
+        faults
+    };
+    makers.into_iter().map(made).collect()
+}
+
+/// All of them, one after the other.
 pub fn faults() -> Vec<Fault> {
-    let mut faults = Vec::new();
-    of_variables(&mut faults);
-    of_each_variable(&mut faults);
-    of_curves(&mut faults);
-    of_each_curve(&mut faults);
-    of_functions(&mut faults);
-    of_stores(&mut faults);
-    of_groups(&mut faults);
-    faults
+    sorts_of_faults().into_iter().flatten().collect()
 }
 
 fn add(
@@ -68,7 +79,6 @@ fn add_records(
 }
 
 fn of_variables(faults: &mut Vec<Fault>) {
-    let start = faults.len();
     let no_groups = |lent: &mut Lent| lent.groups.count = 0;
     add_records(faults, "no variables", no_groups, |lent| {
         lent.variables.clear()
@@ -90,7 +100,7 @@ fn of_variables(faults: &mut Vec<Fault>) {
             }
         },
     );
-    faults[start..]
+    faults
         .iter_mut()
         .for_each(|fault| fault.in_variables = true);
 }
@@ -116,7 +126,6 @@ impl Place {
 }
 
 fn of_each_variable(faults: &mut Vec<Fault>) {
-    let start = faults.len();
     for place in Place::ALL {
         for size in [0, 128, 255] {
             variable_fault(
@@ -149,7 +158,7 @@ fn of_each_variable(faults: &mut Vec<Fault>) {
             variable_fault(faults, place, name, move |variable| variable.kind = kind);
         }
     }
-    faults[start..]
+    faults
         .iter_mut()
         .for_each(|fault| fault.in_variables = true);
 }
@@ -301,7 +310,13 @@ fn of_groups(faults: &mut Vec<Fault>) {
         let name = format!("{} made groups", count);
         add(faults, name, five, move |lent| lent.groups.count = count);
     }
-    let last_unused = move |lent: &mut Lent| {
+    // With 63 variables the one after the last is the last that a set has a bit for.
+    let sixty_three = move |lent: &mut Lent| {
+        let one_byte = Variable::writable(1, Kind::Plain);
+        lent.variables.resize(MOST_VARIABLES - 1, one_byte);
+        five(lent);
+    };
+    let room_left = move |lent: &mut Lent| {
         lent.variables.truncate(MOST_VARIABLES - 1);
         five(lent);
     };
@@ -309,15 +324,15 @@ fn of_groups(faults: &mut Vec<Fault>) {
         let name = format!("group {} is empty", place + 3);
         add(faults, name, five, move |lent| lent.groups.sets[place] = 0);
         let name = format!("group {} has the variable after the last", place + 3);
-        add(faults, name, last_unused, move |lent| {
+        add(faults, name, room_left, move |lent| {
             lent.groups.sets[place] |= 1 << lent.variables.len()
         });
-        let name = format!("group {} has variable 63, which is not declared", place + 3);
-        add(faults, name, last_unused, move |lent| {
+        let name = format!("group {} has variable 63 of 63", place + 3);
+        add(faults, name, sixty_three, move |lent| {
             lent.groups.sets[place] |= 1 << 63
         });
         let name = format!("group {} has no declared variable", place + 3);
-        add(faults, name, last_unused, move |lent| {
+        add(faults, name, room_left, move |lent| {
             lent.groups.sets[place] = !all_declared(lent.variables.len())
         });
     }
