@@ -2,7 +2,7 @@
 use crate::boards::some_set;
 use crate::lent::{members, Lent};
 use crate::random::Random;
-use cruachvel::{Groups, MOST_PACKET};
+use cruachvel::{Groups, MOST_BLOCKS, MOST_PACKET};
 
 /// The request codes of 01's table.
 pub const COMMANDS: [u8; 18] = [
@@ -238,7 +238,7 @@ impl Drawer<'_> {
         let block = if wrongs.contains(&Wrong::Value) {
             self.random.choose(&[blocks, blocks + 1, 0xFFFF])
         } else {
-            self.random.below(blocks.min(MOST_BLOCK_NUMBERS))
+            self.random.below(blocks.min(MOST_BLOCKS))
         };
         let block = (block.min(0xFFFF) as u16).to_be_bytes();
         let front = [number, block[0], block[1]];
@@ -271,13 +271,12 @@ impl Drawer<'_> {
         }
         if wrongs.contains(&Wrong::Number) {
             let unknown = self.unknown(self.lent.variables.len());
-            let place = self.random.below(numbers.len());
-            let last = numbers.len() - 1;
-            numbers[if wrongs.contains(&Wrong::Value) {
-                place
-            } else {
-                last
-            }] = unknown;
+            // At the end it keeps the order, if that is to be right.
+            let place = match wrongs.contains(&Wrong::Value) {
+                true => self.random.below(numbers.len()),
+                false => numbers.len() - 1,
+            };
+            numbers[place] = unknown;
         }
         numbers
     }
@@ -450,5 +449,3 @@ impl Drawer<'_> {
         message[1..3].copy_from_slice(&wrong.to_be_bytes());
     }
 }
-
-const MOST_BLOCK_NUMBERS: usize = 65536;
