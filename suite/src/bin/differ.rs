@@ -1,31 +1,36 @@
-//! differ [--seed N] [--calls N]: both nodes on random boards, call after call, until that many calls agreed or one didn't.
+//! differ [--seed N] [--calls N] [--all]: both nodes on random boards, call after call, until that many calls agreed or one didn't.
+//! With --all it also fails if some refusal, answer, wire error or pair of wire errors never came up.
 use std::process::exit;
 use suite::differ::Differ;
 
-const USAGE: &str = "differ [--seed N] [--calls N]";
+const USAGE: &str = "differ [--seed N] [--calls N] [--all]";
 const SHOWN_EVERY: u64 = 10_000_000;
 
 struct Wanted {
     seed: u64,
     calls: u64,
+    all: bool,
 }
 
-fn wanted(arguments: impl Iterator<Item = String>) -> Result<Wanted, String> {
+fn number(name: &str, text: Option<String>) -> Result<u64, String> {
+    let text = text.unwrap_or_default();
+    let wrong = |_| format!("{} takes a number, and not \"{}\"", name, text);
+    text.parse().map_err(wrong)
+}
+
+fn wanted(mut arguments: impl Iterator<Item = String>) -> Result<Wanted, String> {
     let mut wanted = Wanted {
         seed: 1,
         calls: 1_000_000,
+        all: false,
     };
-    let mut arguments = arguments;
     while let Some(name) = arguments.next() {
-        let place = match name.as_str() {
-            "--seed" => &mut wanted.seed,
-            "--calls" => &mut wanted.calls,
+        match name.as_str() {
+            "--seed" => wanted.seed = number(&name, arguments.next())?,
+            "--calls" => wanted.calls = number(&name, arguments.next())?,
+            "--all" => wanted.all = true,
             _ => return Err(format!("{} is no option: {}", name, USAGE)),
-        };
-        let number = arguments.next().unwrap_or_default();
-        *place = number
-            .parse()
-            .map_err(|_| format!("{} takes a number, and not \"{}\"", name, number))?;
+        }
     }
     Ok(wanted)
 }
@@ -44,5 +49,10 @@ fn main() {
             exit(1);
         }
         println!("{} calls agree", differ.tally.calls);
+    }
+    let not_met = differ.tally.not_met();
+    if wanted.all && !not_met.is_empty() {
+        println!("never came up: {}", not_met.join("; "));
+        exit(1);
     }
 }

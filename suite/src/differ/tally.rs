@@ -1,18 +1,18 @@
 //! What was met on the way.
 use super::calls::{Call, Entry};
 use super::Ending;
-use crate::packets::Wrong;
+use crate::packets::{Wrong, COMMANDS};
 
-/// Counts of what was met, so that a test can see that nothing was missed.
+/// Counts of what was met.
 pub struct Tally {
     pub calls: u64,
     /// How often a request of code `r` was answered with code `a`, at `r * 256 + a`.
-    pub answers: Vec<u64>,
+    answers: Vec<u64>,
     /// How often each local refusal was given, by its number.
-    pub refusals: [u64; 13],
+    refusals: [u64; 13],
     /// How often a function was to be run: with an answer due, and without.
-    pub runs: [u64; 2],
-    pub silences: u64,
+    runs: [u64; 2],
+    silences: u64,
     /// The drafts that were sent: by command, then by the first thing wrong in it, then by the second.
     drafts: Vec<u64>,
 }
@@ -58,13 +58,67 @@ impl Tally {
         }
     }
 
-    /// How often a message of this command was sent with these things wrong in it, two at most and in order.
-    pub fn drafted(&self, command: u8, wrongs: &[Wrong]) -> u64 {
+    fn drafted(&self, command: u8, wrongs: &[Wrong]) -> u64 {
         self.drafts[draft_place(command, wrongs)]
     }
 
-    /// How often a request of this code was answered with that code.
-    pub fn answered(&self, request: u8, answer: u8) -> u64 {
+    fn answered(&self, request: u8, answer: u8) -> u64 {
         self.answers[usize::from(request) * 256 + usize::from(answer)]
     }
+
+    /// What never came up: a comparison says something only of what did.
+    pub fn not_met(&self) -> Vec<String> {
+        let mut missing: Vec<String> = (1..=12)
+            .filter(|refusal| self.refusals[*refusal] == 0)
+            .map(|refusal| format!("refusal {}", refusal))
+            .collect();
+        if self.runs.contains(&0) {
+            missing.push("a function to be run, with an answer due and without".to_string());
+        }
+        if self.silences == 0 {
+            missing.push("silence".to_string());
+        }
+        for command in COMMANDS {
+            missing.extend(self.answers_not_met(command));
+            missing.extend(self.drafts_not_met(command));
+        }
+        missing
+    }
+
+    fn answers_not_met(&self, command: u8) -> Vec<String> {
+        let good = match command {
+            0x00 | 0x02 | 0x04 | 0x06 | 0x08 | 0x0C | 0x10 | 0x12 | 0x40 => Some(command + 1),
+            0x28 => Some(0x11),
+            0x50 => None,
+            _ => Some(0xE0),
+        };
+        // With an unknown command in its place, the answer is not this command's.
+        let errors = wrongs_of(command).filter(|wrong| *wrong != Wrong::Command);
+        good.into_iter()
+            .chain(errors.map(Wrong::error))
+            .filter(|answer| self.answered(command, *answer) == 0)
+            .map(|answer| format!("{:02X} answered with {:02X}", command, answer))
+            .collect()
+    }
+
+    // Messages with nothing wrong, one thing, and every pair of things.
+    fn drafts_not_met(&self, command: u8) -> Vec<String> {
+        let mut drafts = vec![vec![]];
+        for first in wrongs_of(command) {
+            drafts.push(vec![first]);
+            let later = wrongs_of(command).filter(|second| *second > first);
+            drafts.extend(later.map(|second| vec![first, second]));
+        }
+        drafts
+            .iter()
+            .filter(|wrongs| self.drafted(command, wrongs) == 0)
+            .map(|wrongs| format!("{:02X} with {:?}", command, wrongs))
+            .collect()
+    }
+}
+
+// What a message of this command can have wrong, in 01's order.
+fn wrongs_of(command: u8) -> impl Iterator<Item = Wrong> {
+    let all = Wrong::ALL.into_iter();
+    all.filter(move |wrong| wrong.concerns(command))
 }
