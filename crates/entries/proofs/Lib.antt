@@ -4,6 +4,7 @@ pub mod Same
 pub mod Unique
 pub mod Apart
 pub mod Walk
+pub mod Byte
 pub mod PacketWalk
 pub mod ResultWalk
 pub mod StoreWalk

@@ -1,61 +1,54 @@
 -- What the taken records say: of 64 records or fewer they are the lent records themselves; of more, only their number counts. Assumes nothing.
 use mathlib.Core.Path.{_≡_, refl, sym, _∙_, ap, subst}
-use mathlib.Core.Bool.{Bool, true, false, cond}
 use mathlib.Core.Logic.{inl, inr}
 use mathlib.Core.List.{List}
-use Prim.Native.Nat.{ℕ, zero, suc, _<_, _≤_}
+use Prim.Native.Nat.{ℕ, zero, suc, min, _<_, _≤_}
 use native.Mathlib.Nat.{not-suc-le-zero, le-of-suc-le-suc, eq-or-lt-of-le}
-use native.Mathlib.Numerals.{add-one}
 use native.Mathlib.Omega.{arith}
 use native.Mathlib.Decide.{decLt}
-use lib.Dec.{ltb}
 use lib.ListN.{length, getD, set, length-set}
 use lib.Seq.{getD-set-same, getD-set-other, ext-getD}
-use borrow.Author.Tests.{lt-ltb}
 use Rattle.bsmp.specs.declared.Variable.{Variable}
 use Rattle.records.specs.declared.Records.{Records}
 use Rattle.records.specs.Lending.{recordAt, recordsOf}
 use Rattle.records.proofs.Lending.{record-count, record-at}
-use Rattle.entries.specs.Taken.{noRecords, blankVariable, variableAt, withRecord, takenTo, takenOf}
+use Rattle.entries.specs.Taken.{countedOf, blankVariable, variableAt, withRecord, takenTo, takenOf}
 
-count-cond : (b : Bool) (x y : Records) (n : ℕ) → x .count ≡ n → y .count ≡ n → cond b x y .count ≡ n
-count-cond true x y n p q = p
-count-cond false x y n p q = q
-
-to-count : (vs : List Variable) (k : ℕ) → takenTo vs k .count ≡ k
+to-count : (vs : List Variable) (k : ℕ) → takenTo vs k .count ≡ length vs
 unfolding takenTo
 to-count vs zero = refl
-to-count vs (suc k) = count-cond (ltb k 64) _ _ (suc k) (add-one k) (add-one k)
+to-count vs (suc k) = to-count vs k
 
 -- all are counted
 pub taken-count : (vs : List Variable) → takenOf vs .count ≡ length vs
-taken-count vs = to-count vs (length vs)
+taken-count vs = to-count vs (min (length vs) 64)
 
 -- a column: at each place the record's number
-module _ (vs : List Variable) (column : Records → List ℕ) (field : Variable → ℕ) (start : length (column noRecords) ≡ 64)
-    (put : (r : Records) (i : ℕ) (v : Variable) → i < 64 → column (withRecord r i v) ≡ set (column r) i (field v)) where
-  column-length : (k : ℕ) → k ≤ 64 → length (column (takenTo vs k)) ≡ 64
+module _ (vs : List Variable) (column : Records → List ℕ) (field : Variable → ℕ) (start : (n : ℕ) → length (column (countedOf n)) ≡ 64)
+    (put : (r : Records) (i : ℕ) (v : Variable) → column (withRecord r i v) ≡ set (column r) i (field v)) where
+  column-length : (k : ℕ) → length (column (takenTo vs k)) ≡ 64
   unfolding takenTo
-  column-length zero h = start
-  column-length (suc k) h =
-      ap length (put (takenTo vs k) k (variableAt vs k) h) ∙ length-set (column (takenTo vs k)) k (field (variableAt vs k)) ∙ column-length k (omega arith)
+  column-length zero = start (length vs)
+  column-length (suc k) =
+      ap length (put (takenTo vs k) k (variableAt vs k)) ∙ length-set (column (takenTo vs k)) k (field (variableAt vs k)) ∙ column-length k
 
   column-at : (k i : ℕ) → k ≤ 64 → i < k → getD (column (takenTo vs k)) i 0 ≡ field (variableAt vs i)
   unfolding takenTo
   column-at zero i h l = absurd (not-suc-le-zero l)
   column-at (suc k) i h l =
-      ap (λ (xs : List ℕ). getD xs i 0) (put (takenTo vs k) k (variableAt vs k) h) ∙ elim (eq-or-lt-of-le (le-of-suc-le-suc l)) [
+      ap (λ (xs : List ℕ). getD xs i 0) (put (takenTo vs k) k (variableAt vs k)) ∙ elim (eq-or-lt-of-le (le-of-suc-le-suc l)) [
         | inl e ↦ subst (λ (j : ℕ). getD (set (column (takenTo vs k)) k (field (variableAt vs k))) j 0 ≡ field (variableAt vs j)) (sym e)
-            (getD-set-same (column (takenTo vs k)) k (field (variableAt vs k)) 0 (omega (arith, column-length k (omega arith))))
+            (getD-set-same (column (takenTo vs k)) k (field (variableAt vs k)) 0 (omega (arith, column-length k)))
         | inr m ↦ getD-set-other (column (takenTo vs k)) k i (field (variableAt vs k)) 0 (λ e. omega (arith, m, e)) ∙ column-at k i (omega arith) m
       ]
 
 taken-at : (vs : List Variable) (i : ℕ) → length vs ≤ 64 → i < length vs → recordAt (takenOf vs) i ≡ variableAt vs i
 taken-at vs i h l =
-    let w = column-at vs (λ r. r .writable) (λ v. v .writable) refl (λ r j v k. simp (lt-ltb j 64 k)) (length vs) i h l in
-    let s = column-at vs (λ r. r .sizes) (λ v. v .size) refl (λ r j v k. simp (lt-ltb j 64 k)) (length vs) i h l in
-    let k = column-at vs (λ r. r .kinds) (λ v. v .kind) refl (λ r j v k. simp (lt-ltb j 64 k)) (length vs) i h l in
-    λ j. record { writable = w j; size = s j; kind = k j }
+    let k = min (length vs) 64 in
+    let w = column-at vs (λ r. r .writable) (λ v. v .writable) (λ n. refl) (λ r j v. refl) k i (omega arith) (omega arith) in
+    let s = column-at vs (λ r. r .sizes) (λ v. v .size) (λ n. refl) (λ r j v. refl) k i (omega arith) (omega arith) in
+    let t = column-at vs (λ r. r .kinds) (λ v. v .kind) (λ n. refl) (λ r j v. refl) k i (omega arith) (omega arith) in
+    λ j. record { writable = w j; size = s j; kind = t j }
 
 -- 64 or fewer are all there
 pub taken-records : (vs : List Variable) → length vs ≤ 64 → recordsOf (takenOf vs) ≡ vs

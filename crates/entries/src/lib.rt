@@ -11,49 +11,48 @@ use records::Records;
 use results::Ran;
 use results::Stored;
 ghost use mathlib.Core.Path.{_≡_};
-ghost use Prim.Native.Nat.{_+_, _<_, _^_};
+ghost use Prim.Native.Nat.{min};
 ghost use Rattle.node.specs.Promise.{left};
 ghost use Rattle.results.specs.Results.{replied, kept};
 ghost use Rattle.readings.specs.Answers.{signedReadingOf, unsignedReadingOf, wrote};
-ghost use Rattle.entries.specs.Taken.{noRecords, withRecord, takenOf};
+ghost use Rattle.entries.specs.Taken.{countedOf, takenOf};
 ghost use Rattle.entries.specs.Board.{doneWith};
 ghost use Rattle.entries.specs.Comes.{packetOf, resultOf, storeOf, signedOf, unsignedOf, signedBytesOf, unsignedBytesOf};
 
-fn no_records() -> Records
-    ensures { λ r. ⌜ r ≡ noRecords ⌝ }
+// How many of so many records have a place in the columns.
+fn stored(count: usize) -> usize
+    ensures { λ r. ⌜ r ≡ min count 64 ⌝ }
+{
+    if count < 64 {
+        return count;
+    }
+    64
+}
+
+// So many records, none of them stored yet.
+fn counted(count: usize) -> Records
+    ensures { λ r. ⌜ r ≡ countedOf count ⌝ }
 {
     Records {
-        count: 0,
+        count,
         writable: [0; 64],
         sizes: [0; 64],
         kinds: [0; 64],
     }
 }
 
-// One record more, at i; past the last place it is counted only.
-fn with_record(records: Records, i: usize, v: Variable) -> Records
-    requires { ⌜ i + 1 < 2 ^ 64 ⌝ }
-    ensures { λ r. ⌜ r ≡ withRecord records i v ⌝ }
-{
-    let mut next = records;
-    next.count = i + 1;
-    if i < 64 {
-        next.writable[i] = v.writable;
-        next.sizes[i] = v.size;
-        next.kinds[i] = v.kind;
-        return next;
-    }
-    next
-}
-
-// The lent records by columns, in one walk. More than 64 are counted, and so refused by the work.
+// The lent records by columns, in one walk that stores into them in place. More than 64 are counted, and so refused by the work.
 pub fn records_of(variables: &[Variable]) -> Records
     ensures { λ r. ⌜ r ≡ takenOf (now (variables .entry)) ⌝ }
 {
-    let mut records = no_records();
+    let mut records = counted(variables.len());
+    let n = stored(variables.len());
     let mut i: usize = 0;
-    while i < variables.len() {
-        records = with_record(records, i, variables[i]);
+    while i < n {
+        let v = variables[i];
+        records.writable[i] = v.writable;
+        records.sizes[i] = v.size;
+        records.kinds[i] = v.kind;
         i += 1;
     }
     records
