@@ -8,3 +8,4 @@ pub mod packets;
 pub mod random;
 pub mod run;
 pub mod second;
+pub mod whatif;

@@ -1,0 +1,303 @@
+//! A board described in a text file; docs/BOARD-FILE.md says how.
+use super::bytes::{bytes, counted};
+use super::things::{curve_start, Setting};
+use crate::lent::Lent;
+use cruachvel::{Address, Groups, Kind, Variable, VariableNumber};
+use std::fmt;
+use std::path::Path;
+use std::str::FromStr;
+
+/// What is wrong with a board file, and in which line; in line 0 if it is no single one.
+#[derive(Clone, Debug, PartialEq, Eq)]
+pub struct Mistake {
+    pub line: usize,
+    pub message: String,
+}
+
+impl fmt::Display for Mistake {
+    fn fmt(&self, f: &mut fmt::Formatter) -> fmt::Result {
+        match self.line {
+            0 => f.write_str(&self.message),
+            line => write!(f, "line {}: {}", line, self.message),
+        }
+    }
+}
+
+/// The board that a file describes; else the file's name, the line and what is wrong.
+pub fn read(path: &Path) -> Result<Setting, String> {
+    let named = |message: String| format!("{}: {}", path.display(), message);
+    let text = std::fs::read_to_string(path).map_err(|error| named(error.to_string()))?;
+    parse(&text).map_err(|mistake| named(mistake.to_string()))
+}
+
+/// The board that a text describes.
+pub fn parse(text: &str) -> Result<Setting, Mistake> {
+    let mut draft = Draft::new();
+    for (place, line) in text.lines().enumerate() {
+        let said = line.split('#').next().unwrap_or_default();
+        let told = draft.take(&mut Words::of(said), place + 1);
+        told.map_err(|message| Mistake {
+            line: place + 1,
+            message,
+        })?;
+    }
+    draft.finish()
+}
+
+// The words of a line, taken one by one.
+struct Words<'a> {
+    rest: Vec<&'a str>,
+}
+
+impl<'a> Words<'a> {
+    fn of(line: &'a str) -> Words<'a> {
+        let mut rest: Vec<&str> = line.split_whitespace().collect();
+        rest.reverse();
+        Words { rest }
+    }
+
+    fn next(&mut self, what: &str) -> Result<&'a str, String> {
+        self.rest
+            .pop()
+            .ok_or_else(|| format!("{} is missing", what))
+    }
+
+    fn number<T: FromStr>(&mut self, what: &str, range: &str) -> Result<T, String> {
+        let word = self.next(what)?;
+        word.parse()
+            .map_err(|_| format!("{} is a number from {}, and not {:?}", what, range, word))
+    }
+
+    // The bytes that all further words stand for.
+    fn bytes(&mut self) -> Result<Vec<u8>, String> {
+        let mut all = Vec::new();
+        while let Some(word) = self.rest.pop() {
+            all.extend(bytes(word).map_err(|_| format!("{:?} is no bytes in hex", word))?);
+        }
+        Ok(all)
+    }
+
+    // The set of variables that all further words name.
+    fn set(&mut self) -> Result<u64, String> {
+        let mut set = 0;
+        while !self.rest.is_empty() {
+            let number: u32 = self.number("a variable", "0 to 63")?;
+            set |= 1u64.checked_shl(number).ok_or_else(|| {
+                format!("a variable is a number from 0 to 63, and not {}", number)
+            })?;
+        }
+        Ok(set)
+    }
+
+    fn end(&self) -> Result<(), String> {
+        match self.rest.last() {
+            None => Ok(()),
+            Some(word) => Err(format!("{:?} is too much", word)),
+        }
+    }
+}
+
+// A board in the making.
+struct Draft {
+    setting: Setting,
+    own: Option<u8>,
+    // Bytes for a curve's first blocks: the line, the curve and the bytes.
+    curve_bytes: Vec<(usize, usize, Vec<u8>)>,
+    whole_values: Option<Vec<u8>>,
+    whole_blocks: Option<Vec<u8>>,
+}
+
+impl Draft {
+    fn new() -> Draft {
+        let lent = Lent {
+            variables: Vec::new(),
+            curves: Vec::new(),
+            functions: Vec::new(),
+            groups: Groups::NONE,
+            address: Address {
+                own: 0,
+                multicast: 1,
+            },
+            values: Vec::new(),
+            blocks: Vec::new(),
+        };
+        Draft {
+            setting: Setting { lent, busy: 0 },
+            own: None,
+            curve_bytes: Vec::new(),
+            whole_values: None,
+            whole_blocks: None,
+        }
+    }
+
+    fn take(&mut self, words: &mut Words, line: usize) -> Result<(), String> {
+        let name = match words.rest.pop() {
+            Some(name) => name,
+            None => return Ok(()),
+        };
+        match name {
+            "address" => self.address(words)?,
+            "multicast" => self.multicast(words)?,
+            "variable" => self.variable(words)?,
+            "curve" => self.curve(words, line)?,
+            "function" => self.function(words)?,
+            "group" => self.group(words)?,
+            "busy" => self.setting.busy |= words.set()?,
+            "values" => self.whole_values = Some(words.bytes()?),
+            "blocks" => self.whole_blocks = Some(words.bytes()?),
+            _ => return Err(format!("{:?} is none of address, multicast, variable, curve, function, group, busy, values and blocks", name)),
+        }
+        words.end()
+    }
+
+    fn address(&mut self, words: &mut Words) -> Result<(), String> {
+        if self.own.is_some() {
+            return Err("a board has one address".to_string());
+        }
+        self.own = Some(words.number("the address", "0 to 255")?);
+        Ok(())
+    }
+
+    fn multicast(&mut self, words: &mut Words) -> Result<(), String> {
+        match words.bytes()?[..] {
+            [byte] => self.setting.lent.address.multicast = byte,
+            _ => return Err("the multicast byte is one byte in hex".to_string()),
+        }
+        Ok(())
+    }
+
+    fn variable(&mut self, words: &mut Words) -> Result<(), String> {
+        let record = Variable {
+            writable: writable(words)?.into(),
+            size: words.number("the size", "0 to 255")?,
+            kind: kind(words)?.number(),
+        };
+        let size = usize::from(record.size);
+        let bytes = match words.rest.pop() {
+            None => vec![0; size],
+            Some("bytes") => words.bytes()?,
+            Some("value") => number_bytes(record, words.next("the value")?)?,
+            Some(other) => return Err(format!("{:?} is neither value nor bytes", other)),
+        };
+        if bytes.len() != size {
+            return Err(format!(
+                "the variable has {}, and {} are given",
+                counted(size, "byte"),
+                bytes.len()
+            ));
+        }
+        self.setting.lent.variables.push(record);
+        self.setting.lent.values.extend(bytes);
+        Ok(())
+    }
+
+    fn curve(&mut self, words: &mut Words, line: usize) -> Result<(), String> {
+        let curves = &mut self.setting.lent.curves;
+        let record: [u32; 3] = [
+            writable(words)?.into(),
+            words.number("the block size", "0 to 4294967295")?,
+            words.number("the number of blocks", "0 to 4294967295")?,
+        ];
+        match words.rest.pop() {
+            None => (),
+            Some("bytes") => self
+                .curve_bytes
+                .push((line, curves.len() / 3, words.bytes()?)),
+            Some(other) => return Err(format!("{:?} stands where bytes can stand", other)),
+        }
+        curves.extend(record);
+        Ok(())
+    }
+
+    fn function(&mut self, words: &mut Words) -> Result<(), String> {
+        let input: u8 = words.number("the input", "0 to 255")?;
+        let output: u8 = words.number("the output", "0 to 255")?;
+        self.setting.lent.functions.extend([input, output]);
+        Ok(())
+    }
+
+    fn group(&mut self, words: &mut Words) -> Result<(), String> {
+        let groups = &mut self.setting.lent.groups;
+        let place = groups.sets.get_mut(groups.count as usize);
+        *place.ok_or("the group table has room for five made groups")? = words.set()?;
+        groups.count += 1;
+        Ok(())
+    }
+
+    fn finish(self) -> Result<Setting, Mistake> {
+        let mut setting = self.setting;
+        let lent = &mut setting.lent;
+        lent.address.own = self.own.ok_or_else(|| Mistake {
+            line: 0,
+            message: "the line with the address is missing".to_string(),
+        })?;
+        lent.refit();
+        for (line, number, bytes) in self.curve_bytes {
+            let (start, end) = (curve_start(lent, number), curve_start(lent, number + 1));
+            let place = lent
+                .blocks
+                .get_mut(start..end)
+                .and_then(|curve| curve.get_mut(..bytes.len()));
+            let message = "the curve has not so many bytes".to_string();
+            place
+                .ok_or(Mistake { line, message })?
+                .copy_from_slice(&bytes);
+        }
+        if let Some(values) = self.whole_values {
+            lent.values = values;
+        }
+        if let Some(blocks) = self.whole_blocks {
+            lent.blocks = blocks;
+        }
+        Ok(setting)
+    }
+}
+
+fn writable(words: &mut Words) -> Result<bool, String> {
+    match words.next("read-only or writable")? {
+        "read-only" => Ok(false),
+        "writable" => Ok(true),
+        other => Err(format!("{:?} is neither read-only nor writable", other)),
+    }
+}
+
+fn kind(words: &mut Words) -> Result<Kind, String> {
+    let name = words.next("the kind")?;
+    if name == "plain" {
+        return Ok(Kind::Plain);
+    }
+    match (name, words.next("big or little")?) {
+        ("unsigned", "big") => Ok(Kind::UnsignedBig),
+        ("unsigned", "little") => Ok(Kind::UnsignedLittle),
+        ("signed", "big") => Ok(Kind::SignedBig),
+        ("signed", "little") => Ok(Kind::SignedLittle),
+        (name, order) => Err(format!("\"{} {}\" is none of plain, unsigned big, unsigned little, signed big and signed little", name, order)),
+    }
+}
+
+/// The bytes of a number as a variable with this record has it, by the proved readings.
+pub fn number_bytes(record: Variable, number: &str) -> Result<Vec<u8>, String> {
+    let mut bytes = vec![0; record.size.into()];
+    let (variable, long) = (VariableNumber(0), || {
+        format!("{:?} is no number of 64 bits", number)
+    });
+    let signed = [Kind::SignedBig, Kind::SignedLittle]
+        .map(Kind::number)
+        .contains(&record.kind);
+    let written = if signed {
+        let number = number.parse().map_err(|_| long())?;
+        cruachvel::write_signed(&[record], variable, number, &mut bytes)
+    } else {
+        let number = number.parse().map_err(|_| long())?;
+        cruachvel::write_unsigned(&[record], variable, number, &mut bytes)
+    };
+    match written {
+        Ok(()) => Ok(bytes),
+        Err(refusal) => Err(format!(
+            "{} is refused with {}, {}",
+            number,
+            refusal.number(),
+            refusal
+        )),
+    }
+}

@@ -1,0 +1,79 @@
+//! What a call changed in values, curves and groups.
+use super::bytes::shown;
+use super::things::{curve, curve_start, number, set_text, value};
+use crate::lent::Lent;
+use cruachvel::Groups;
+use std::ops::Range;
+
+/// A line for each variable, block and group that is not what it was.
+pub fn changes(before: &Lent, after: &Lent) -> Vec<String> {
+    let mut lines = values(before, after);
+    lines.extend(blocks(before, after));
+    lines.extend(groups(&before.groups, &after.groups));
+    lines
+}
+
+fn values(before: &Lent, after: &Lent) -> Vec<String> {
+    let changed = |variable: &usize| value(before, *variable) != value(after, *variable);
+    let line = |variable: usize| {
+        let (old, new) = (
+            value_text(before, variable, value(before, variable)),
+            value_text(after, variable, value(after, variable)),
+        );
+        format!("variable {}: {} -> {}", variable, old, new)
+    };
+    (0..before.variables.len())
+        .filter(changed)
+        .map(line)
+        .collect()
+}
+
+/// A variable's bytes, and the number that they mean if it is one.
+pub fn value_text(lent: &Lent, variable: usize, bytes: &[u8]) -> String {
+    match number(lent, variable, bytes) {
+        Some(number) => format!("{} ({})", shown(bytes), number),
+        None => shown(bytes),
+    }
+}
+
+fn blocks(before: &Lent, after: &Lent) -> Vec<String> {
+    let mut lines = Vec::new();
+    for number in 0..before.curves.len() / 3 {
+        let size = curve(before, number).map_or(1, |curve| curve.size.max(1));
+        let (start, end) = (curve_start(before, number), curve_start(before, number + 1));
+        let old = before.blocks.get(start..end).unwrap_or(&[]).chunks(size);
+        let new = after.blocks.get(start..end).unwrap_or(&[]).chunks(size);
+        for (block, (old, new)) in old
+            .zip(new)
+            .enumerate()
+            .filter(|(_, (old, new))| old != new)
+        {
+            let Range { start, end } = differing(old, new);
+            let (old, new) = (shown(&old[start..end]), shown(&new[start..end]));
+            lines.push(format!(
+                "curve {}, block {}, from byte {}: {} -> {}",
+                number, block, start, old, new
+            ));
+        }
+    }
+    lines
+}
+
+// The part from the first byte that differs to the last.
+fn differing(old: &[u8], new: &[u8]) -> Range<usize> {
+    let differs = |place: &usize| old[*place] != new[*place];
+    let first = (0..old.len()).find(differs).unwrap_or(0);
+    let last = (0..old.len()).rev().find(differs).unwrap_or(0);
+    first..last + 1
+}
+
+fn groups(before: &Groups, after: &Groups) -> Vec<String> {
+    let made =
+        |groups: &Groups, place: usize| (place < groups.count as usize).then(|| groups.sets[place]);
+    let text = |set: Option<u64>| set.map_or("none".to_string(), set_text);
+    let line = |place: usize| {
+        let (old, new) = (made(before, place), made(after, place));
+        (old != new).then(|| format!("group {}: {} -> {}", place + 3, text(old), text(new)))
+    };
+    (0..before.sets.len()).filter_map(line).collect()
+}

@@ -1,0 +1,145 @@
+//! 01's table of commands: what each is called, what its payload is made of, and what it is answered with.
+
+/// What stands at the front of a payload. A block number has two bytes, all else one.
+#[derive(Clone, Copy, Debug, PartialEq, Eq)]
+pub enum Field {
+    Variable,
+    VariableRead,
+    Group,
+    Operation,
+    Curve,
+    Block,
+    Function,
+}
+
+impl Field {
+    pub fn width(self) -> usize {
+        if self == Field::Block {
+            2
+        } else {
+            1
+        }
+    }
+}
+
+/// What follows the front.
+#[derive(Clone, Copy, Debug, PartialEq, Eq)]
+pub enum Rest {
+    Nothing,
+    Value,
+    Mask,
+    Members,
+    Data,
+    Input,
+}
+
+/// A row of 01's table: request, payload and answer in 01's words, with 001's name of the command.
+#[derive(Debug)]
+pub struct Command {
+    pub code: u8,
+    pub name: &'static str,
+    pub payload: &'static str,
+    pub answer: &'static str,
+    pub front: &'static [Field],
+    pub rest: Rest,
+}
+
+impl Command {
+    pub fn of(code: u8) -> Option<&'static Command> {
+        COMMANDS.iter().find(|command| command.code == code)
+    }
+
+    /// The least length of the payload: its front, and for 30 one variable.
+    pub fn least(&self) -> usize {
+        let front: usize = self.front.iter().map(|field| field.width()).sum();
+        front + usize::from(self.rest == Rest::Members)
+    }
+
+    /// The row as it stands in 01.
+    pub fn row(&self) -> String {
+        format!("| {:02X} | {} | {} |", self.code, self.payload, self.answer)
+    }
+}
+
+const fn row(
+    code: u8,
+    name: &'static str,
+    (payload, answer): (&'static str, &'static str),
+    front: &'static [Field],
+    rest: Rest,
+) -> Command {
+    Command {
+        code,
+        name,
+        payload,
+        answer,
+        front,
+        rest,
+    }
+}
+
+use Field::{Block, Curve, Function, Group, Operation, Variable, VariableRead};
+use Rest::{Data, Input, Mask, Members, Nothing, Value};
+
+#[rustfmt::skip]
+pub const COMMANDS: [Command; 18] = [
+    row(0x00, "query the protocol version", ("none", "01: 02 14 00"), &[], Nothing),
+    row(0x02, "query the list of variables", ("none", "03: a byte per variable, top bit 1 if writable, low seven the size"), &[], Nothing),
+    row(0x04, "query the list of groups", ("none", "05: a byte per group, top bit 1 if writable, low seven the member count"), &[], Nothing),
+    row(0x06, "query a group", ("group", "07: its variables, ascending"), &[Group], Nothing),
+    row(0x08, "query the list of curves", ("none", "09: per curve type (0, 1), block size in two bytes, blocks in two (65,536 as 0)"), &[], Nothing),
+    row(0x0C, "query the list of functions", ("none", "0D: per function, input count in the high four bits, output in the low four"), &[], Nothing),
+    row(0x10, "read a variable", ("variable", "11: value"), &[Variable], Nothing),
+    row(0x12, "read a group", ("group", "13: members' values, ascending"), &[Group], Nothing),
+    row(0x20, "write a variable", ("variable, value", "E0"), &[Variable], Value),
+    row(0x22, "write a group", ("group, members' values", "E0"), &[Group], Value),
+    row(0x24, "binary operation on a variable", ("variable, operation, mask", "E0"), &[Variable, Operation], Mask),
+    row(0x26, "binary operation on a group", ("group, operation, members' masks", "E0"), &[Group, Operation], Mask),
+    row(0x28, "write and read variables", ("variable written, variable read, value", "11: the second's value, after the write"), &[Variable, VariableRead], Value),
+    row(0x30, "create a group", ("variables of a new group", "E0"), &[], Members),
+    row(0x32, "remove all groups", ("none", "E0; groups 3 to 7 are gone, their numbers free again"), &[], Nothing),
+    row(0x40, "request a curve block", ("curve, block in two bytes", "41: curve, block, the block's bytes"), &[Curve, Block], Nothing),
+    row(0x41, "curve block", ("curve, block in two bytes, data", "E0"), &[Curve, Block], Data),
+    row(0x50, "execute a function", ("function, input", "the function is to be run"), &[Function], Input),
+];
+
+/// What a reply's code is called.
+pub fn reply_name(code: u8) -> &'static str {
+    match code {
+        0x01 => "protocol version",
+        0x03 => "list of variables",
+        0x05 => "list of groups",
+        0x07 => "group",
+        0x09 => "list of curves",
+        0x0D => "list of functions",
+        0x11 => "value of a variable",
+        0x13 => "values of a group",
+        0x41 => "curve block",
+        0x51 => "output of a function",
+        0x53 => "error of a function",
+        0xE0 => "OK",
+        0xE1 => "malformed message",
+        0xE2 => "operation not supported",
+        0xE3 => "invalid ID",
+        0xE4 => "invalid value",
+        0xE5 => "invalid payload size",
+        0xE6 => "read-only",
+        0xE7 => "insufficient memory",
+        0xE8 => "resource busy",
+        _ => "a code that 01 doesn't have",
+    }
+}
+
+/// What an operation of 24 and 26 is called, if it is one.
+pub fn operation_name(code: u8) -> Option<&'static str> {
+    let name = match code {
+        0x53 => "set: turns on the mask's bits",
+        0x4F => "or: turns on the mask's bits",
+        0x43 => "clear: turns off the mask's bits",
+        0x54 => "toggle: inverts the mask's bits",
+        0x58 => "xor: inverts the mask's bits",
+        0x41 => "and: keeps only the mask's bits",
+        _ => return None,
+    };
+    Some(name)
+}

@@ -1,0 +1,175 @@
+//! A request decoded: each field with what it means on this board.
+use super::bytes::{checksum, counted, grouped};
+use super::commands::{operation_name, Command, Field, Rest};
+use super::packet::Packet;
+use super::sheet::Part;
+use super::things::{
+    curve, curve_text, function, function_text, group, group_text, kind_name, listed, number,
+    variable_text, Setting,
+};
+use crate::lent::{members, Lent};
+use cruachvel::Address;
+
+/// The parts of a request, as far as its bytes go.
+pub fn parts(request: Packet, setting: &Setting) -> Vec<Part> {
+    let mut parts = Vec::new();
+    if let Some(destination) = request.destination() {
+        let meaning = destination_text(destination, setting.lent.address);
+        parts.push(Part::new("destination", &[destination], meaning));
+    }
+    if let Some(code) = request.code() {
+        let name = request.command().map_or("no command", |known| known.name);
+        parts.push(Part::new("command", &[code], name));
+        parts.extend(size_part(request));
+    }
+    parts.extend(payload_parts(request, setting));
+    parts.extend(checksum_part(request));
+    parts
+}
+
+fn destination_text(destination: u8, address: Address) -> String {
+    let joined = || address.multicast >> (255 - destination) & 1 == 1;
+    match destination {
+        own if own == address.own => "this board".to_string(),
+        248..=255 if joined() => format!("multicast {}, joined", destination),
+        248..=255 => format!("multicast {}, not joined", destination),
+        other => format!("address {}, not this board", other),
+    }
+}
+
+/// SIZE of a request or a reply, held against the bytes that follow it.
+pub fn size_part(packet: Packet) -> Option<Part> {
+    let follow = counted(packet.payload().len(), "byte");
+    let meaning = match packet.size() {
+        Some(size) if size == packet.payload().len() => format!("{} of payload", follow),
+        Some(size) => format!("{}, but the payload has {}", grouped(size), follow),
+        None => "cut off".to_string(),
+    };
+    let bytes = packet.size_bytes();
+    (!bytes.is_empty()).then(|| Part::new("SIZE", bytes, meaning))
+}
+
+/// The checksum of a request or a reply.
+pub fn checksum_part(packet: Packet) -> Option<Part> {
+    let sum = checksum(packet.0).wrapping_neg();
+    let meaning = match sum {
+        0 => "the sum is 0".to_string(),
+        sum => format!("the sum is {:02X}", sum),
+    };
+    Some(Part::new("checksum", &[packet.checksum()?], meaning))
+}
+
+fn payload_parts(request: Packet, setting: &Setting) -> Vec<Part> {
+    let command = match request.command() {
+        Some(command) => command,
+        None if request.payload().is_empty() => return Vec::new(),
+        None => return vec![Part::new("payload", request.payload(), "")],
+    };
+    let (fields, rest) = request.fields(command);
+    let mut parts: Vec<Part> = fields
+        .into_iter()
+        .map(|(field, bytes)| field_part(field, bytes, request, &setting.lent))
+        .collect();
+    parts.extend(rest_parts(command, rest, request, &setting.lent));
+    parts
+}
+
+fn field_part(field: Field, bytes: &[u8], request: Packet, lent: &Lent) -> Part {
+    let name = match field {
+        Field::Variable | Field::VariableRead => "variable",
+        Field::Group => "group",
+        Field::Operation => "operation",
+        Field::Curve => "curve",
+        Field::Block => "block",
+        Field::Function => "function",
+    };
+    let meaning = match request.field(field) {
+        Some(value) => field_text(field, value, lent),
+        None if bytes.is_empty() => "missing".to_string(),
+        None => "cut off".to_string(),
+    };
+    Part::new(name, bytes, meaning)
+}
+
+fn field_text(field: Field, value: usize, lent: &Lent) -> String {
+    let (name, text) = match field {
+        Field::Variable => ("variable", lent.variables.get(value).map(variable_text)),
+        Field::VariableRead => {
+            let text = lent.variables.get(value).map(variable_text);
+            ("to be read: variable", text)
+        }
+        Field::Group => ("group", group(lent, value).map(group_text)),
+        Field::Curve => ("curve", curve(lent, value).map(curve_text)),
+        Field::Function => ("function", function(lent, value).map(function_text)),
+        Field::Block => return format!("block {}", value),
+        Field::Operation => {
+            let name = operation_name(value as u8);
+            return name.unwrap_or("no operation").to_string();
+        }
+    };
+    match text {
+        Some(text) => format!("{} {}: {}", name, value, text),
+        None => format!("{} {}: there is none", name, value),
+    }
+}
+
+fn rest_parts(command: &Command, rest: &[u8], request: Packet, lent: &Lent) -> Vec<Part> {
+    let word = match command.rest {
+        Rest::Nothing if rest.is_empty() => return Vec::new(),
+        Rest::Nothing => "too much",
+        Rest::Value => "value",
+        Rest::Mask => "mask",
+        Rest::Data => "data",
+        Rest::Input => "input",
+        Rest::Members => return vec![numbers_part(rest)],
+    };
+    match written(request, lent) {
+        Some(set) if matches!(command.rest, Rest::Value | Rest::Mask) => {
+            values_parts(word, set, rest, lent)
+        }
+        _ => vec![Part::new(word, rest, counted(rest.len(), "byte"))],
+    }
+}
+
+/// Variables by their numbers.
+pub fn numbers_part(numbers: &[u8]) -> Part {
+    let meaning = listed(numbers.iter().map(|number| usize::from(*number)));
+    Part::new("variables", numbers, meaning)
+}
+
+// The variables that a request is to write.
+fn written(request: Packet, lent: &Lent) -> Option<u64> {
+    match request.field(Field::Group) {
+        Some(number) => group(lent, number).map(|group| group.set),
+        None => {
+            let number = request.field(Field::Variable)?;
+            lent.variables.get(number)?;
+            1u64.checked_shl(number as u32)
+        }
+    }
+}
+
+/// The values of a set's variables one by one, or together where the bytes are not of their length.
+pub fn values_parts(word: &str, set: u64, bytes: &[u8], lent: &Lent) -> Vec<Part> {
+    let needed = lent.set_bytes(set);
+    if bytes.len() != needed {
+        let meaning = format!(
+            "{}, where {} should be",
+            counted(bytes.len(), "byte"),
+            needed
+        );
+        return vec![Part::new(word, bytes, meaning)];
+    }
+    let mut rest = bytes;
+    let known = members(set).filter(|number| *number < lent.variables.len());
+    let part = |variable: usize| {
+        let (value, after) = rest.split_at(lent.variables[variable].size.into());
+        rest = after;
+        let meaning = match number(lent, variable, value) {
+            Some(number) if word == "value" => format!("means {}", number),
+            _ => kind_name(lent.variables[variable].kind),
+        };
+        Part::new(format!("{} of {}", word, variable), value, meaning)
+    };
+    known.map(part).collect()
+}

@@ -1,0 +1,159 @@
+//! What in a board breaks 01's table: the reason of refusal 1.
+use super::bytes::{counted, grouped};
+use super::things::{curve, listed};
+use crate::lent::{all_declared, members, values_length, Lent};
+use cruachvel::{Kind, Variable, MOST_BLOCKS, MOST_VALUES, MOST_VARIABLES};
+
+/// The first thing that breaks the table, if something does.
+pub fn broken(lent: &Lent) -> Option<String> {
+    variables(&lent.variables)
+        .or_else(|| curves(lent))
+        .or_else(|| functions(&lent.functions))
+        .or_else(|| stores(lent))
+        .or_else(|| groups(lent))
+}
+
+/// The same for the variable records alone, which is what the readings look at.
+pub fn variables(variables: &[Variable]) -> Option<String> {
+    let (count, bytes) = (variables.len(), values_length(variables));
+    if !(1..=MOST_VARIABLES).contains(&count) {
+        return Some(format!(
+            "{}; 1 to 64 are allowed",
+            counted(count, "variable")
+        ));
+    }
+    let records = variables.iter().enumerate();
+    let mut wrong = records
+        .filter_map(|(number, record)| Some(format!("variable {} {}", number, variable(record)?)));
+    wrong.next().or_else(|| {
+        let total = counted(bytes, "byte");
+        (bytes > MOST_VALUES)
+            .then(|| format!("the variables have {}; at most 4,096 are allowed", total))
+    })
+}
+
+fn variable(record: &Variable) -> Option<String> {
+    let (size, number) = (record.size, record.kind != Kind::Plain.number());
+    if record.writable > 1 {
+        Some(format!(
+            "has type {}, which is neither 0 nor 1",
+            record.writable
+        ))
+    } else if usize::from(record.kind) >= Kind::ALL.len() {
+        Some(format!("has kind {}, which there is not", record.kind))
+    } else if !(1..=127).contains(&size) {
+        Some(format!(
+            "has {}; 1 to 127 are allowed",
+            counted(size.into(), "byte")
+        ))
+    } else if number && !matches!(size, 1 | 2 | 4 | 8) {
+        Some(format!(
+            "is a number of {} bytes; a number has 1, 2, 4 or 8",
+            size
+        ))
+    } else {
+        None
+    }
+}
+
+fn curves(lent: &Lent) -> Option<String> {
+    let (count, left) = (lent.curves.len() / 3, lent.curves.len() % 3);
+    if left != 0 {
+        return Some("a curve record is cut off".to_string());
+    }
+    if count > 8 {
+        return Some(format!("{} curves; 0 to 8 are allowed", count));
+    }
+    let mut wrong = (0..count)
+        .filter_map(|number| Some(format!("curve {} {}", number, curve_fault(lent, number)?)));
+    wrong.next().or_else(|| {
+        let bytes = blocks_length(lent);
+        let total = grouped(bytes);
+        (bytes > MOST_BLOCKS).then(|| {
+            format!(
+                "the curves have {} bytes; at most 65,536 are allowed",
+                total
+            )
+        })
+    })
+}
+
+fn curve_fault(lent: &Lent, number: usize) -> Option<String> {
+    let (kind, record) = (lent.curves[3 * number], curve(lent, number)?);
+    if kind > 1 {
+        Some(format!("has type {}, which is neither 0 nor 1", kind))
+    } else if !(1..=4096).contains(&record.size) {
+        Some(format!(
+            "has blocks of {}; 1 to 4,096 are allowed",
+            counted(record.size, "byte")
+        ))
+    } else if !(1..=MOST_BLOCKS).contains(&record.blocks) {
+        Some(format!(
+            "has {}; 1 to 65,536 are allowed",
+            counted(record.blocks, "block")
+        ))
+    } else {
+        None
+    }
+}
+
+fn blocks_length(lent: &Lent) -> usize {
+    super::things::curve_start(lent, lent.curves.len() / 3)
+}
+
+fn functions(functions: &[u8]) -> Option<String> {
+    let (count, left) = (functions.len() / 2, functions.len() % 2);
+    if left != 0 {
+        return Some("a function record is cut off".to_string());
+    }
+    if count > 16 {
+        return Some(format!("{} functions; 0 to 16 are allowed", count));
+    }
+    let place = functions.iter().position(|bytes| *bytes > 15)?;
+    let side = ["input", "output"][place % 2];
+    Some(format!(
+        "function {} has {} bytes of {}; 0 to 15 are allowed",
+        place / 2,
+        functions[place],
+        side
+    ))
+}
+
+fn stores(lent: &Lent) -> Option<String> {
+    let stores = [
+        (
+            "variables",
+            lent.values.len(),
+            values_length(&lent.variables),
+        ),
+        ("curves", lent.blocks.len(), blocks_length(lent)),
+    ];
+    let (name, lent, right) = stores.into_iter().find(|(_, lent, right)| lent != right)?;
+    Some(format!(
+        "the {}' store has {}; the records add up to {}",
+        name,
+        counted(lent, "byte"),
+        grouped(right)
+    ))
+}
+
+fn groups(lent: &Lent) -> Option<String> {
+    let (count, declared) = (lent.groups.count, all_declared(lent.variables.len()));
+    if count > 5 {
+        return Some(format!("{} made groups; 0 to 5 are allowed", count));
+    }
+    let made = &lent.groups.sets[..count as usize];
+    let place = made
+        .iter()
+        .position(|set| *set == 0 || set & !declared != 0)?;
+    let unknown = listed(members(made[place] & !declared));
+    Some(if made[place] == 0 {
+        format!("group {} is empty", place + 3)
+    } else {
+        format!(
+            "group {} has variables that are not declared: {}",
+            place + 3,
+            unknown
+        )
+    })
+}

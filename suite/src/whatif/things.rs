@@ -1,0 +1,130 @@
+//! A board as messages see it: its variables, groups, curves and functions by number, and what they are called.
+use super::bytes::{counted, grouped};
+use crate::lent::{members, Lent};
+use cruachvel::{Kind, Variable, VariableNumber};
+
+/// A board with its busy marks.
+#[derive(Clone, Debug, PartialEq, Eq)]
+pub struct Setting {
+    pub lent: Lent,
+    pub busy: u64,
+}
+
+/// A group that exists.
+#[derive(Clone, Copy, Debug, PartialEq, Eq)]
+pub struct Group {
+    pub set: u64,
+    pub writable: bool,
+}
+
+/// A curve that exists.
+#[derive(Clone, Copy, Debug, PartialEq, Eq)]
+pub struct Curve {
+    pub writable: bool,
+    pub size: usize,
+    pub blocks: usize,
+}
+
+/// Where a curve's blocks start in the store.
+pub fn curve_start(lent: &Lent, number: usize) -> usize {
+    let before = (0..number).filter_map(|number| curve(lent, number));
+    before.fold(0, |sum: usize, curve| {
+        sum.saturating_add(curve.size.saturating_mul(curve.blocks))
+    })
+}
+
+pub fn group(lent: &Lent, number: usize) -> Option<Group> {
+    let sets = lent.group_sets(&lent.groups);
+    let set = *sets.get(number)?;
+    Some(Group {
+        set,
+        writable: number != 1 && set & sets[1] == 0,
+    })
+}
+
+pub fn curve(lent: &Lent, number: usize) -> Option<Curve> {
+    let record = lent.curves.chunks_exact(3).nth(number)?;
+    Some(Curve {
+        writable: record[0] == 1,
+        size: record[1] as usize,
+        blocks: record[2] as usize,
+    })
+}
+
+/// A function's input and output, in bytes.
+pub fn function(lent: &Lent, number: usize) -> Option<(usize, usize)> {
+    let record = lent.functions.chunks_exact(2).nth(number)?;
+    Some((record[0].into(), record[1].into()))
+}
+
+/// A variable's bytes, as far as the store has them.
+pub fn value(lent: &Lent, number: usize) -> &[u8] {
+    let (place, end) = (lent.place(number), lent.values.len());
+    &lent.values[place.start.min(end)..place.end.min(end)]
+}
+
+/// The number that bytes of a variable mean, by the proved readings; none for plain bytes and wrong lengths.
+pub fn number(lent: &Lent, variable: usize, bytes: &[u8]) -> Option<i128> {
+    let name = VariableNumber(variable);
+    let signed = cruachvel::read_signed(&lent.variables, name, bytes).map(i128::from);
+    let unsigned = || cruachvel::read_unsigned(&lent.variables, name, bytes).map(i128::from);
+    signed.or_else(|_| unsigned()).ok()
+}
+
+pub fn type_name(writable: bool) -> &'static str {
+    if writable {
+        "writable"
+    } else {
+        "read-only"
+    }
+}
+
+pub fn kind_name(kind: u8) -> String {
+    let name = match Kind::ALL.get(usize::from(kind)) {
+        Some(Kind::Plain) => "plain",
+        Some(Kind::UnsignedBig) => "unsigned big endian",
+        Some(Kind::UnsignedLittle) => "unsigned little endian",
+        Some(Kind::SignedBig) => "signed big endian",
+        Some(Kind::SignedLittle) => "signed little endian",
+        None => return format!("of unknown kind {}", kind),
+    };
+    name.to_string()
+}
+
+/// Numbers with spaces between them.
+pub fn listed(numbers: impl Iterator<Item = usize>) -> String {
+    let numbers: Vec<String> = numbers.map(|number| number.to_string()).collect();
+    numbers.join(" ")
+}
+
+/// A set of variables in words.
+pub fn set_text(set: u64) -> String {
+    match set.count_ones() {
+        0 => "no variables".to_string(),
+        1 => format!("variable {}", set.trailing_zeros()),
+        _ => format!("variables {}", listed(members(set))),
+    }
+}
+
+pub fn variable_text(record: &Variable) -> String {
+    format!(
+        "{}, {}, {}",
+        type_name(record.writable == 1),
+        counted(record.size.into(), "byte"),
+        kind_name(record.kind)
+    )
+}
+
+pub fn group_text(group: Group) -> String {
+    format!("{}, {}", type_name(group.writable), set_text(group.set))
+}
+
+pub fn curve_text(curve: Curve) -> String {
+    let of = counted(curve.size, "byte");
+    let blocks = counted(curve.blocks, "block");
+    format!("{}, {} of {}", type_name(curve.writable), blocks, of)
+}
+
+pub fn function_text((input, output): (usize, usize)) -> String {
+    format!("{} in, {} out", counted(input, "byte"), grouped(output))
+}
