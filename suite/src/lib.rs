@@ -1,5 +1,6 @@
 //! The proved library against an independent second node, and its laws on compiled code.
 pub mod boards;
+pub mod cases;
 pub mod differ;
 pub mod faults;
 pub mod guard;

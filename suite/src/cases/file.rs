@@ -1,0 +1,231 @@
+//! How a file of cases is read. Each line is a keyword and what belongs to it.
+use crate::whatif::bytes::bytes;
+
+/// A question with all that answers it.
+#[derive(Clone, Debug, Default)]
+pub struct Case {
+    pub line: usize,
+    pub section: String,
+    pub question: String,
+    pub answer: Vec<String>,
+    /// The name of the board file, and lines that are added to it.
+    pub board: String,
+    pub with: Vec<String>,
+    pub acts: Vec<Act>,
+    /// 01's sentences, with their lines in the file.
+    pub says: Vec<(usize, String)>,
+}
+
+/// A call, and what is expected of it: its outcome first.
+#[derive(Clone, Debug)]
+pub struct Act {
+    pub line: usize,
+    /// The call as the file writes it.
+    pub text: String,
+    pub busy: u64,
+    pub call: Call,
+    pub expected: Vec<(usize, String)>,
+}
+
+#[derive(Clone, Debug)]
+pub enum Call {
+    Packet(Vec<u8>),
+    Store(usize, Vec<u8>),
+    Read {
+        signed: bool,
+        variable: usize,
+        bytes: Vec<u8>,
+    },
+    Write {
+        signed: bool,
+        variable: usize,
+        number: i128,
+        room: usize,
+    },
+    Result {
+        function: usize,
+        due: bool,
+        failed: bool,
+        bytes: Vec<u8>,
+    },
+}
+
+const CALLS: [&str; 5] = ["packet", "store", "read", "write", "result"];
+const OUTCOMES: [&str; 7] = [
+    "reply", "silence", "run", "refused", "done", "number", "bytes",
+];
+const STATES: [&str; 6] = ["step", "unchanged", "variable", "reads", "block", "group"];
+
+/// The cases of a file, or the line and what is wrong with it.
+pub fn parse(text: &str) -> Result<Vec<Case>, String> {
+    let mut reader = Reader::default();
+    for (place, line) in text.lines().enumerate() {
+        let line = line.trim();
+        if line.is_empty() || line.starts_with('#') {
+            continue;
+        }
+        let (keyword, rest) = line.split_once(' ').unwrap_or((line, ""));
+        reader.line = place + 1;
+        reader
+            .take(keyword, rest.trim())
+            .map_err(|message| format!("line {}: {}", place + 1, message))?;
+    }
+    reader.cases.iter().try_for_each(complete)?;
+    Ok(reader.cases)
+}
+
+fn complete(case: &Case) -> Result<(), String> {
+    let lacks = if case.board.is_empty() {
+        "board"
+    } else if case.acts.is_empty() {
+        "call"
+    } else if case.says.is_empty() {
+        "sentence of 01"
+    } else if case.answer.is_empty() {
+        "answer"
+    } else {
+        return Ok(());
+    };
+    Err(format!("line {}: the question has no {}", case.line, lacks))
+}
+
+#[derive(Default)]
+struct Reader {
+    line: usize,
+    section: String,
+    busy: u64,
+    cases: Vec<Case>,
+}
+
+impl Reader {
+    fn take(&mut self, keyword: &str, rest: &str) -> Result<(), String> {
+        match keyword {
+            "section" => self.section = rest.to_string(),
+            "question" => self.question(rest),
+            "answer" => self.case()?.answer.push(rest.to_string()),
+            "board" => self.case()?.board = rest.to_string(),
+            "with" => self.case()?.with.push(rest.to_string()),
+            "busy" => self.busy = marks(rest)?,
+            "says" => {
+                let line = self.line;
+                self.case()?.says.push((line, rest.to_string()));
+            }
+            call if CALLS.contains(&call) => self.act(call, rest)?,
+            expected if OUTCOMES.contains(&expected) || STATES.contains(&expected) => {
+                self.expect(expected, rest)?
+            }
+            _ => return Err(format!("{:?} is no keyword", keyword)),
+        }
+        Ok(())
+    }
+
+    fn question(&mut self, question: &str) {
+        self.busy = 0;
+        self.cases.push(Case {
+            line: self.line,
+            section: self.section.clone(),
+            question: question.to_string(),
+            ..Case::default()
+        });
+    }
+
+    fn case(&mut self) -> Result<&mut Case, String> {
+        self.cases
+            .last_mut()
+            .ok_or_else(|| "no question was asked yet".to_string())
+    }
+
+    fn act(&mut self, keyword: &str, rest: &str) -> Result<(), String> {
+        let act = Act {
+            line: self.line,
+            text: rest.to_string(),
+            busy: self.busy,
+            call: call(keyword, &rest.split_whitespace().collect::<Vec<&str>>())?,
+            expected: Vec::new(),
+        };
+        self.case()?.acts.push(act);
+        Ok(())
+    }
+
+    // The outcome comes first, and there is one; then what holds after it.
+    fn expect(&mut self, keyword: &str, rest: &str) -> Result<(), String> {
+        let (line, text) = (self.line, format!("{} {}", keyword, rest));
+        let acts = &mut self.case()?.acts;
+        let act = acts.last_mut().ok_or("no call stands before this line")?;
+        if OUTCOMES.contains(&keyword) != act.expected.is_empty() {
+            return Err("a call has one outcome, in the line after it".to_string());
+        }
+        act.expected.push((line, text.trim().to_string()));
+        Ok(())
+    }
+}
+
+fn marks(numbers: &str) -> Result<u64, String> {
+    let mut marks = 0;
+    for number in numbers.split_whitespace() {
+        let mark = number
+            .parse()
+            .ok()
+            .and_then(|number| 1u64.checked_shl(number));
+        marks |= mark.ok_or_else(|| format!("{:?} is no variable", number))?;
+    }
+    Ok(marks)
+}
+
+fn call(keyword: &str, words: &[&str]) -> Result<Call, String> {
+    match (keyword, words) {
+        ("packet", words) => Ok(Call::Packet(repeated(words)?)),
+        ("store", [variable, words @ ..]) => Ok(Call::Store(number(variable)?, repeated(words)?)),
+        ("read", [kind @ ("signed" | "unsigned"), variable, words @ ..]) => Ok(Call::Read {
+            signed: *kind == "signed",
+            variable: number(variable)?,
+            bytes: repeated(words)?,
+        }),
+        ("write", [kind @ ("signed" | "unsigned"), variable, value, "into", room]) => {
+            Ok(Call::Write {
+                signed: *kind == "signed",
+                variable: number(variable)?,
+                number: whole_number(kind, value)?,
+                room: number(room)?,
+            })
+        }
+        ("result", [function, due @ ("due" | "quiet"), ran @ ("gave" | "failed"), words @ ..]) => {
+            Ok(Call::Result {
+                function: number(function)?,
+                due: *due == "due",
+                failed: *ran == "failed",
+                bytes: repeated(words)?,
+            })
+        }
+        _ => Err(format!("a {} is not written so", keyword)),
+    }
+}
+
+fn number<T: std::str::FromStr>(word: &str) -> Result<T, String> {
+    word.parse()
+        .map_err(|_| format!("{:?} is no number that can stand here", word))
+}
+
+// A number that the call can be handed.
+fn whole_number(kind: &str, word: &str) -> Result<i128, String> {
+    if kind == "signed" {
+        number::<i64>(word).map(i128::from)
+    } else {
+        number::<u64>(word).map(i128::from)
+    }
+}
+
+fn repeated(words: &[&str]) -> Result<Vec<u8>, String> {
+    bytes(&expanded(&words.join(" "))?)
+}
+
+/// A line with its repetitions written out: 00*3 stands for 00 00 00.
+pub fn expanded(line: &str) -> Result<String, String> {
+    let mut words = Vec::new();
+    for word in line.split_whitespace() {
+        let (piece, times) = word.split_once('*').unwrap_or((word, "1"));
+        let times: u16 = number(times)?;
+        words.extend((0..times).map(|_| piece));
+    }
+    Ok(words.join(" "))
+}

@@ -1,0 +1,111 @@
+//! The cases of docs/what-if.cases: questions about the node, each with calls that are run on the proved code, what they end in, and
+//! 01's sentence. docs/WHAT-IF.md is made from them.
+mod file;
+mod page;
+mod run;
+
+pub use file::{parse, Act, Call, Case};
+pub use page::page;
+pub use run::{run, Ran};
+
+use crate::whatif::board_file;
+use crate::whatif::Setting;
+use std::collections::BTreeMap;
+use std::fs;
+use std::path::Path;
+
+/// The folder of the documents, which has the cases, their boards and the page.
+pub const DOCS: &str = concat!(env!("CARGO_MANIFEST_DIR"), "/../docs");
+
+/// The board files by name.
+pub type Boards = BTreeMap<String, String>;
+
+/// Reads all boards of a folder.
+pub fn boards(folder: &Path) -> Result<Boards, String> {
+    let lost = |error: std::io::Error| format!("{}: {}", folder.display(), error);
+    let mut boards = Boards::new();
+    for entry in fs::read_dir(folder).map_err(lost)? {
+        let path = entry.map_err(lost)?.path();
+        if let (Some(stem), true) = (path.file_stem(), path.extension() == Some("board".as_ref())) {
+            boards.insert(stem.to_string_lossy().into_owned(), read(&path)?);
+        }
+    }
+    Ok(boards)
+}
+
+pub fn read(path: &Path) -> Result<String, String> {
+    fs::read_to_string(path).map_err(|error| format!("{}: {}", path.display(), error))
+}
+
+/// The page as the cases of a folder make it, and how many they are; else all that is wrong with them. The sentences of 01 are looked up
+/// in its text, if that is given.
+pub fn made(docs: &Path, document: Option<&Path>) -> Result<(String, usize), Vec<String>> {
+    let one = |message: String| vec![message];
+    let named = |message: String| format!("what-if.cases: {}", message);
+    let all = |lines: Vec<String>| lines.into_iter().map(named).collect::<Vec<String>>();
+    let text = read(&docs.join("what-if.cases")).map_err(one)?;
+    let cases = parse(&text).map_err(named).map_err(one)?;
+    let boards = boards(&docs.join("boards")).map_err(one)?;
+    let ran = run_all(&cases, &boards).map_err(all)?;
+    let wrong = match document {
+        Some(path) => misquoted(&cases, &read(path).map_err(one)?),
+        None => Vec::new(),
+    };
+    if wrong.is_empty() {
+        Ok((page(&cases, &ran), cases.len()))
+    } else {
+        Err(all(wrong))
+    }
+}
+
+/// Whether a page is what the cases make; else the first line that is not.
+pub fn same(page: &str, made: &str) -> Result<(), String> {
+    if page == made {
+        return Ok(());
+    }
+    let lines = page.lines().chain([""]).zip(made.lines().chain([""]));
+    let place = lines.take_while(|(old, new)| old == new).count() + 1;
+    Err(format!(
+        "WHAT-IF.md: line {} is not what the cases make; run cases write",
+        place
+    ))
+}
+
+impl Case {
+    /// The board that the case starts from.
+    pub fn setting(&self, boards: &Boards) -> Result<Setting, String> {
+        let name = &self.board;
+        let text = boards
+            .get(name)
+            .ok_or_else(|| format!("there is no board {}", name))?;
+        let whole = [text.trim_end(), &self.with.join("\n")].join("\n");
+        board_file::parse(&whole).map_err(|mistake| format!("board {}: {}", name, mistake))
+    }
+}
+
+/// Runs all cases: what each act came to, or everything that is wrong with them.
+pub fn run_all(cases: &[Case], boards: &Boards) -> Result<Vec<Vec<Ran>>, Vec<String>> {
+    let (mut all, mut wrong) = (Vec::new(), Vec::new());
+    for case in cases {
+        match run(case, boards) {
+            Ok(ran) => all.push(ran),
+            Err(lines) => wrong.extend(lines),
+        }
+    }
+    if wrong.is_empty() {
+        Ok(all)
+    } else {
+        Err(wrong)
+    }
+}
+
+/// The sentences that the cases quote and that don't stand in 01.
+pub fn misquoted(cases: &[Case], document: &str) -> Vec<String> {
+    let plain = |text: &str| text.split_whitespace().collect::<Vec<&str>>().join(" ");
+    let document = plain(document);
+    let quotes = cases.iter().flat_map(|case| &case.says);
+    let missing = quotes.filter(|(_, quote)| !document.contains(&plain(quote)));
+    missing
+        .map(|(line, quote)| format!("line {}: 01 doesn't say: {}", line, quote))
+        .collect()
+}

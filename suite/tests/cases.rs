@@ -1,0 +1,226 @@
+//! docs/WHAT-IF.md: every case holds on the proved code, the page is what they make, and a line that is not so is found.
+use std::path::{Path, PathBuf};
+use suite::boards::board_a;
+use suite::cases::{boards, made, misquoted, parse, read, run, same, Boards, DOCS};
+use suite::whatif::board_file;
+
+fn docs() -> &'static Path {
+    Path::new(DOCS)
+}
+
+fn all_boards() -> Boards {
+    boards(&docs().join("boards")).expect("boards that can be read")
+}
+
+#[test]
+fn every_case_holds_and_the_page_is_what_they_make() {
+    let document = std::env::var_os("DOCUMENT_01").map(PathBuf::from);
+    let (made, _) =
+        made(docs(), document.as_deref()).unwrap_or_else(|lines| panic!("{}", lines.join("\n")));
+    let page = read(&docs().join("WHAT-IF.md")).expect("the page");
+    assert_eq!(same(&page, &made), Ok(()));
+}
+
+#[test]
+fn board_a_of_the_files_is_board_a_of_the_tests() {
+    let setting = board_file::read(&docs().join("boards/a.board")).expect("a board");
+    assert_eq!((setting.lent, setting.busy), (board_a(), 0));
+}
+
+const CASE: &str = "\
+question What is written?
+answer This.
+board a
+busy 2
+packet F8 20 00 02 01 66 7F
+silence
+variable 1 66
+packet 05 22 00 04 02 01 02 03 CD
+reply 00 E8 00 00 18
+step 9
+unchanged
+store 0 00 00 00 07
+done
+reads 0 7
+write signed 0 -1 into 4
+bytes FF*4
+result 0 due failed 09
+reply 00 53 00 01 09 A3
+packet 05 30 00 02 00 02 C7
+reply 00 E0 00 00 20
+group 3 0 2
+group 4 none
+block 0 1 00 00 00 00
+says The way back";
+
+fn wrong(text: &str) -> Vec<String> {
+    let cases = parse(text).expect("a case that can be read");
+    run(&cases[0], &all_boards()).err().unwrap_or_default()
+}
+
+#[test]
+fn a_line_that_is_not_so_is_found() {
+    assert_eq!(wrong(CASE), [""; 0]);
+    let changes = [
+        (
+            "silence",
+            "refused 6",
+            "line 6: it says \"refused 6\", and it is \"silence\"",
+        ),
+        (
+            "variable 1 66",
+            "variable 1 67",
+            "line 7: it says \"variable 1 67\", and it is \"variable 1 66\"",
+        ),
+        (
+            "variable 1 66",
+            "unchanged",
+            "line 7: it says \"unchanged\", and it is \"variable 1: 5A -> 66\"",
+        ),
+        (
+            "variable 1 66",
+            "variable 3 66",
+            "line 7: \"variable 3 66\" can't be found out",
+        ),
+        (
+            "variable 1 66",
+            "step 9",
+            "line 7: it says \"step 9\", and it is \"no step\"",
+        ),
+        (
+            "00 E8 00 00 18",
+            "00 E6 00 00 1A",
+            "line 9: it says \"reply 00 E6 00 00 1A\", and it is \"reply 00 E8 00 00 18\"",
+        ),
+        (
+            "step 9",
+            "step 8",
+            "line 10: it says \"step 8\", and it is \"step 9\"",
+        ),
+        (
+            "done",
+            "refused 9",
+            "line 13: it says \"refused 9\", and it is \"done\"",
+        ),
+        (
+            "reads 0 7",
+            "reads 0 -3",
+            "line 14: it says \"reads 0 -3\", and it is \"reads 0 7\"",
+        ),
+        (
+            "FF*4",
+            "FF*3",
+            "line 16: it says \"bytes FF*3\", and it is \"bytes FF FF FF FF\"",
+        ),
+        (
+            "01 09 A3",
+            "01 08 A4",
+            "line 18: it says \"reply 00 53 00 01 08 A4\", and it is \"reply 00 53 00 01 09 A3\"",
+        ),
+        (
+            "group 3 0 2",
+            "group 3 0",
+            "line 21: it says \"group 3 0\", and it is \"group 3 0 2\"",
+        ),
+        (
+            "group 4 none",
+            "group 4 0",
+            "line 22: it says \"group 4 0\", and it is \"group 4 none\"",
+        ),
+        (
+            "1 00 00 00 00",
+            "1 00 00 00 01",
+            "line 23: it says \"block 0 1 00 00 00 01\", and it is \"block 0 1 00 00 00 00\"",
+        ),
+    ];
+    for (old, new, message) in changes {
+        assert_eq!(wrong(&CASE.replace(old, new)), [message]);
+    }
+}
+
+#[test]
+fn a_case_that_says_too_little_is_found() {
+    let lines = "question What?\nanswer So.\nboard a\npacket 05 FB\nsays It.";
+    assert_eq!(
+        wrong(lines),
+        ["line 4: the call has no outcome; it ends in: reply 00 E1 00 00 1F"]
+    );
+    assert_eq!(
+        wrong(&lines.replace("board a", "board z")),
+        ["line 1: there is no board z"]
+    );
+    assert_eq!(
+        wrong(&lines.replace("board a", "board a\nwith busy x"))[0],
+        "line 1: board a: line 9: a variable is a number from 0 to 63, and not \"x\""
+    );
+    for (line, lacks) in [
+        ("board a", "board"),
+        ("packet 05 FB", "call"),
+        ("says It.", "sentence of 01"),
+        ("answer So.", "answer"),
+    ] {
+        let message = parse(&lines.replace(line, "")).expect_err(line);
+        assert_eq!(message, format!("line 1: the question has no {}", lacks));
+    }
+}
+
+#[test]
+fn mistakes_in_a_file_of_cases_are_told_with_their_line() {
+    let mistakes = [
+        ("board a", "line 1: no question was asked yet"),
+        (
+            "question What?\nsilence",
+            "line 2: no call stands before this line",
+        ),
+        (
+            "question What?\nanser So.",
+            "line 2: \"anser\" is no keyword",
+        ),
+        (
+            "question What?\npacket 05 FB\nstep 1",
+            "line 3: a call has one outcome, in the line after it",
+        ),
+        (
+            "question What?\npacket 05 FB\nsilence\nsilence",
+            "line 4: a call has one outcome, in the line after it",
+        ),
+        (
+            "question What?\npacket 05 F",
+            "line 2: a byte has two digits, and at place 4 stands one",
+        ),
+        (
+            "question What?\npacket 00*x",
+            "line 2: \"x\" is no number that can stand here",
+        ),
+        (
+            "question What?\nread 0 FF",
+            "line 2: a read is not written so",
+        ),
+        (
+            "question What?\nwrite unsigned 0 -1 into 1",
+            "line 2: \"-1\" is no number that can stand here",
+        ),
+        ("question What?\nbusy 64", "line 2: \"64\" is no variable"),
+    ];
+    for (lines, message) in mistakes {
+        assert_eq!(parse(lines).expect_err(lines), message);
+    }
+}
+
+#[test]
+fn a_sentence_that_01_does_not_have_is_found() {
+    let cases = parse(CASE).expect("a case that can be read");
+    assert_eq!(misquoted(&cases, "before. The\nway  back accepts"), [""; 0]);
+    assert_eq!(
+        misquoted(&cases, "The way forth"),
+        ["line 24: 01 doesn't say: The way back"]
+    );
+}
+
+#[test]
+fn a_page_that_went_stale_is_found() {
+    let stale = "WHAT-IF.md: line 2 is not what the cases make; run cases write";
+    assert_eq!(same("one\ntwo\n", "one\ntwo\n"), Ok(()));
+    assert_eq!(same("one\ntwo\n", "one\n2\n"), Err(stale.to_string()));
+    assert_eq!(same("one\n", "one\ntwo\n"), Err(stale.to_string()));
+}
