@@ -5,6 +5,7 @@ pub mod differ;
 pub mod faults;
 pub mod guard;
 pub mod lent;
+pub mod measured;
 pub mod packets;
 pub mod random;
 pub mod run;

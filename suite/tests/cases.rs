@@ -2,7 +2,7 @@
 use std::path::{Path, PathBuf};
 use suite::boards::board_a;
 use suite::cases::{boards, made, misquoted, parse, read, run, same, Boards, DOCS};
-use suite::whatif::board_file;
+use suite::whatif::{board_file, quotes};
 
 fn docs() -> &'static Path {
     Path::new(DOCS)
@@ -210,10 +210,19 @@ fn mistakes_in_a_file_of_cases_are_told_with_their_line() {
 #[test]
 fn a_sentence_that_01_does_not_have_is_found() {
     let cases = parse(CASE).expect("a case that can be read");
-    assert_eq!(misquoted(&cases, "before. The\nway  back accepts"), [""; 0]);
+    let whatif = quotes().join("\n");
+    let document = format!("before. The\nway  back accepts\n{}", whatif);
+    assert_eq!(misquoted(&cases, &document), [""; 0]);
+    let document = document.replace("way  back", "way forth");
     assert_eq!(
-        misquoted(&cases, "The way forth"),
+        misquoted(&cases, &document),
         ["line 24: 01 doesn't say: The way back"]
+    );
+    let step = "E2: command not above.";
+    let document = whatif.replace(step, "");
+    assert_eq!(
+        misquoted(&[], &document),
+        [format!("whatif quotes what 01 doesn't say: {}", step)]
     );
 }
 

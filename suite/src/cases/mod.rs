@@ -8,8 +8,7 @@ pub use file::{parse, Act, Call, Case};
 pub use page::page;
 pub use run::{run, Ran};
 
-use crate::whatif::board_file;
-use crate::whatif::Setting;
+use crate::whatif::{board_file, quotes, Setting};
 use std::collections::BTreeMap;
 use std::fs;
 use std::path::Path;
@@ -99,13 +98,18 @@ pub fn run_all(cases: &[Case], boards: &Boards) -> Result<Vec<Vec<Ran>>, Vec<Str
     }
 }
 
-/// The sentences that the cases quote and that don't stand in 01.
+/// The sentences that the cases quote, and those that whatif does, as far as they don't stand in 01.
 pub fn misquoted(cases: &[Case], document: &str) -> Vec<String> {
     let plain = |text: &str| text.split_whitespace().collect::<Vec<&str>>().join(" ");
     let document = plain(document);
-    let quotes = cases.iter().flat_map(|case| &case.says);
-    let missing = quotes.filter(|(_, quote)| !document.contains(&plain(quote)));
-    missing
-        .map(|(line, quote)| format!("line {}: 01 doesn't say: {}", line, quote))
-        .collect()
+    let missing = |quote: &str| !document.contains(&plain(quote));
+    let of_cases = cases
+        .iter()
+        .flat_map(|case| &case.says)
+        .filter(|(_, quote)| missing(quote));
+    let of_cases =
+        of_cases.map(|(line, quote)| format!("line {}: 01 doesn't say: {}", line, quote));
+    let of_whatif = quotes().into_iter().filter(|quote| missing(quote));
+    let of_whatif = of_whatif.map(|quote| format!("whatif quotes what 01 doesn't say: {}", quote));
+    of_cases.chain(of_whatif).collect()
 }

@@ -15,7 +15,7 @@ pub mod steps;
 pub mod table;
 pub mod things;
 
-pub use rule::{rule, Rule};
+pub use rule::{quotes, rule, Rule};
 pub use things::Setting;
 
 use bytes::{checksum, hex, shown, summed};

@@ -1,9 +1,9 @@
 //! The rule of 01 that decided a packet.
 use super::bytes::summed;
-use super::commands::Command;
+use super::commands::{Command, COMMANDS};
 use super::packet::Packet;
 use super::refusals;
-use super::steps::{step_of, Step};
+use super::steps::{step_of, Step, STEPS};
 use super::{Ended, Setting};
 use cruachvel::Refusal;
 
@@ -63,6 +63,18 @@ impl Rule {
             _ => true,
         }
     }
+}
+
+/// All words of 01 that an explanation can quote.
+pub fn quotes() -> Vec<String> {
+    let steps = STEPS.iter().map(|step| step.words.to_string());
+    let rows = COMMANDS.iter().map(Command::row);
+    let conditions = Refusal::ALL.iter().map(|refusal| {
+        let (number, condition) = (refusal.number(), refusals::condition(*refusal));
+        format!("| {} | {} | {} |", number, refusal, condition)
+    });
+    let all = steps.chain(rows).chain(conditions);
+    all.chain([MULTICAST.to_string()]).collect()
 }
 
 /// The rule that gave this outcome to a request, on the board as it was before.

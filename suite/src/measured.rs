@@ -1,0 +1,204 @@
+//! The packets whose cost is measured, on the proved node and on the second node.
+use crate::boards::board_a;
+use crate::lent::Lent;
+use crate::packets::{message, packet};
+use crate::second;
+use cruachvel::{Address, Curve, Groups, Kind, Outcome, Variable, MOST_PACKET};
+
+/// A packet on a board.
+pub struct Measured {
+    pub name: &'static str,
+    pub lent: Lent,
+    pub request: Vec<u8>,
+}
+
+fn measured(name: &'static str, lent: &Lent, command: u8, payload: &[u8]) -> Measured {
+    Measured {
+        name,
+        request: packet(lent.address.own, &message(command, payload)),
+        lent: lent.clone(),
+    }
+}
+
+/// All of them.
+pub fn all() -> Vec<Measured> {
+    let mut all = on_small_boards();
+    all.extend(on_full_boards());
+    all
+}
+
+fn on_small_boards() -> Vec<Measured> {
+    let a = board_a();
+    let mut writable = a.clone();
+    writable.variables[0] = Variable::writable(4, Kind::SignedBig);
+    let mut bad_checksum = measured("bad checksum, board A", &a, 0x10, &[1]);
+    bad_checksum.request[5] ^= 1;
+    vec![
+        measured("read of a variable, board A", &a, 0x10, &[1]),
+        measured("write of a variable, board A", &a, 0x20, &[1, 0x66]),
+        measured("read of a group of 3", &a, 0x12, &[0]),
+        measured(
+            "write of a group of 3",
+            &writable,
+            0x22,
+            &[0, 1, 2, 3, 4, 5, 6, 7],
+        ),
+        bad_checksum,
+    ]
+}
+
+fn on_full_boards() -> Vec<Measured> {
+    let full = full_board();
+    let block = [&[0, 0, 15], &[0x66; 4096][..]].concat();
+    let group = [&[0], &[0x66; 64 * 4][..]].concat();
+    let mut unusable = measured("unusable board, in variable 63", &full, 0x10, &[63]);
+    unusable.lent.variables[63].size = 0;
+    vec![
+        measured("read of variable 63", &full, 0x10, &[63]),
+        measured("write of variable 63", &full, 0x20, &[63, 1, 2, 3, 4]),
+        measured("read of a group of 64", &full, 0x12, &[0]),
+        measured("write of a group of 64", &full, 0x22, &group),
+        measured(
+            "read of a block of 4,096 bytes",
+            &curve_board(),
+            0x40,
+            &[0, 0, 15],
+        ),
+        measured(
+            "write of a block of 4,096 bytes",
+            &curve_board(),
+            0x41,
+            &block,
+        ),
+        measured("version", &full, 0x00, &[]),
+        measured("list of variables", &full, 0x02, &[]),
+        measured("list of groups", &full, 0x04, &[]),
+        measured("list of a group's variables", &full, 0x06, &[0]),
+        measured("list of curves", &full, 0x08, &[]),
+        measured("list of functions", &full, 0x0C, &[]),
+        unusable,
+    ]
+}
+
+// As many records of each sort as a board may have, all small.
+fn full_board() -> Lent {
+    let mut lent = Lent {
+        variables: vec![Variable::writable(4, Kind::UnsignedBig); 64],
+        curves: Curve::numbers(&[Curve::writable(4, 2); 8]).to_vec(),
+        functions: [1, 2].repeat(16),
+        groups: Groups {
+            count: 5,
+            sets: [u64::MAX, 1, 2, 4, 1 << 63],
+        },
+        address: Address {
+            own: 5,
+            multicast: 0x81,
+        },
+        values: Vec::new(),
+        blocks: Vec::new(),
+    };
+    lent.refit();
+    lent
+}
+
+fn curve_board() -> Lent {
+    let mut lent = board_a();
+    lent.curves = Curve::numbers(&[Curve::writable(4096, 16)]).to_vec();
+    lent.refit();
+    lent
+}
+
+/// A node that gets the same packet again and again, and what it replies.
+pub trait Side {
+    /// One packet; the reply, which is empty if there is none.
+    fn packet(&mut self) -> &[u8];
+
+    /// So many packets; the sum of the replies' lengths, so that none can be left out.
+    fn packets(&mut self, times: usize) -> usize {
+        (0..times).map(|_| self.packet().len()).sum()
+    }
+}
+
+/// The proved node.
+pub struct Proved {
+    lent: Lent,
+    request: Vec<u8>,
+    reply: Vec<u8>,
+}
+
+impl Proved {
+    pub fn new(measured: &Measured) -> Proved {
+        Proved {
+            lent: measured.lent.clone(),
+            request: measured.request.clone(),
+            reply: vec![0; MOST_PACKET],
+        }
+    }
+}
+
+impl Side for Proved {
+    fn packet(&mut self) -> &[u8] {
+        match self.lent.packet(0, &self.request, &mut self.reply) {
+            Outcome::Reply(reply) => reply,
+            _ => &[],
+        }
+    }
+}
+
+/// The second node.
+pub struct Second {
+    lent: Lent,
+    variables: Vec<second::Variable>,
+    groups: second::Groups,
+    request: Vec<u8>,
+    reply: Vec<u8>,
+}
+
+impl Second {
+    pub fn new(measured: &Measured) -> Second {
+        let lent = measured.lent.clone();
+        let variable = |record: &Variable| second::Variable {
+            writable: record.writable,
+            size: record.size,
+            kind: record.kind,
+        };
+        Second {
+            variables: lent.variables.iter().map(variable).collect(),
+            groups: second::Groups {
+                count: lent.groups.count,
+                sets: lent.groups.sets,
+            },
+            request: measured.request.clone(),
+            reply: vec![0; MOST_PACKET],
+            lent,
+        }
+    }
+}
+
+impl Side for Second {
+    fn packet(&mut self) -> &[u8] {
+        let table = second::Table {
+            variables: &self.variables,
+            curves: &self.lent.curves,
+            functions: &self.lent.functions,
+        };
+        let address = second::Address {
+            own: self.lent.address.own,
+            multicast: self.lent.address.multicast,
+        };
+        let outcome = second::packet(
+            &table,
+            &mut self.groups,
+            address,
+            0,
+            &mut self.lent.values,
+            &mut self.lent.blocks,
+            &self.request,
+            &mut self.reply,
+        );
+        match outcome {
+            second::Outcome::Reply(length) => &self.reply[..length],
+            _ => &[],
+        }
+    }
+}
