@@ -1,5 +1,6 @@
 //! Nanoseconds per packet, of the proved node and of the second node in the same run: a Markdown table on standard output.
 //! packets [--rounds N]: the sides take turns so often; what is shown is the best round of each.
+use std::io::{self, Write};
 use std::process::exit;
 use std::time::Instant;
 use suite::measured::{all, Measured, Proved, Second, Side};
@@ -13,18 +14,26 @@ fn main() {
         eprintln!("{}", message);
         exit(2);
     });
-    println!("| Packet | Proved, ns | Second node, ns | Ratio |");
-    println!("|---|---:|---:|---:|");
+    if let Err(error) = table(rounds) {
+        eprintln!("{}", error);
+        exit(1);
+    }
+}
+
+fn table(rounds: usize) -> io::Result<()> {
+    let mut output = io::stdout();
+    writeln!(output, "| Packet | Proved, ns | Second node, ns | Ratio |")?;
+    writeln!(output, "|---|---:|---:|---:|")?;
     for measured in all() {
         let (proved, second) = best(&measured, rounds);
-        println!(
+        let ratio = proved / second;
+        writeln!(
+            output,
             "| {} | {:.0} | {:.0} | {:.2} |",
-            measured.name,
-            proved,
-            second,
-            proved / second
-        );
+            measured.name, proved, second, ratio
+        )?;
     }
+    Ok(())
 }
 
 // cargo adds --bench of its own.

@@ -58,83 +58,84 @@ fn wrong(text: &str) -> Vec<String> {
     run(&cases[0], &all_boards()).err().unwrap_or_default()
 }
 
+const CHANGES: &[(&str, &str, &str)] = &[
+    (
+        "silence",
+        "refused 6",
+        "line 6: it says \"refused 6\", and it is \"silence\"",
+    ),
+    (
+        "variable 1 66",
+        "variable 1 67",
+        "line 7: it says \"variable 1 67\", and it is \"variable 1 66\"",
+    ),
+    (
+        "variable 1 66",
+        "unchanged",
+        "line 7: it says \"unchanged\", and it is \"variable 1: 5A -> 66\"",
+    ),
+    (
+        "variable 1 66",
+        "variable 3 66",
+        "line 7: \"variable 3 66\" can't be found out",
+    ),
+    (
+        "variable 1 66",
+        "step 9",
+        "line 7: it says \"step 9\", and it is \"no step\"",
+    ),
+    (
+        "00 E8 00 00 18",
+        "00 E6 00 00 1A",
+        "line 9: it says \"reply 00 E6 00 00 1A\", and it is \"reply 00 E8 00 00 18\"",
+    ),
+    (
+        "step 9",
+        "step 8",
+        "line 10: it says \"step 8\", and it is \"step 9\"",
+    ),
+    (
+        "done",
+        "refused 9",
+        "line 13: it says \"refused 9\", and it is \"done\"",
+    ),
+    (
+        "reads 0 7",
+        "reads 0 -3",
+        "line 14: it says \"reads 0 -3\", and it is \"reads 0 7\"",
+    ),
+    (
+        "FF*4",
+        "FF*3",
+        "line 16: it says \"bytes FF*3\", and it is \"bytes FF FF FF FF\"",
+    ),
+    (
+        "01 09 A3",
+        "01 08 A4",
+        "line 18: it says \"reply 00 53 00 01 08 A4\", and it is \"reply 00 53 00 01 09 A3\"",
+    ),
+    (
+        "group 3 0 2",
+        "group 3 0",
+        "line 21: it says \"group 3 0\", and it is \"group 3 0 2\"",
+    ),
+    (
+        "group 4 none",
+        "group 4 0",
+        "line 22: it says \"group 4 0\", and it is \"group 4 none\"",
+    ),
+    (
+        "1 00 00 00 00",
+        "1 00 00 00 01",
+        "line 23: it says \"block 0 1 00 00 00 01\", and it is \"block 0 1 00 00 00 00\"",
+    ),
+];
+
 #[test]
 fn a_line_that_is_not_so_is_found() {
     assert_eq!(wrong(CASE), [""; 0]);
-    let changes = [
-        (
-            "silence",
-            "refused 6",
-            "line 6: it says \"refused 6\", and it is \"silence\"",
-        ),
-        (
-            "variable 1 66",
-            "variable 1 67",
-            "line 7: it says \"variable 1 67\", and it is \"variable 1 66\"",
-        ),
-        (
-            "variable 1 66",
-            "unchanged",
-            "line 7: it says \"unchanged\", and it is \"variable 1: 5A -> 66\"",
-        ),
-        (
-            "variable 1 66",
-            "variable 3 66",
-            "line 7: \"variable 3 66\" can't be found out",
-        ),
-        (
-            "variable 1 66",
-            "step 9",
-            "line 7: it says \"step 9\", and it is \"no step\"",
-        ),
-        (
-            "00 E8 00 00 18",
-            "00 E6 00 00 1A",
-            "line 9: it says \"reply 00 E6 00 00 1A\", and it is \"reply 00 E8 00 00 18\"",
-        ),
-        (
-            "step 9",
-            "step 8",
-            "line 10: it says \"step 8\", and it is \"step 9\"",
-        ),
-        (
-            "done",
-            "refused 9",
-            "line 13: it says \"refused 9\", and it is \"done\"",
-        ),
-        (
-            "reads 0 7",
-            "reads 0 -3",
-            "line 14: it says \"reads 0 -3\", and it is \"reads 0 7\"",
-        ),
-        (
-            "FF*4",
-            "FF*3",
-            "line 16: it says \"bytes FF*3\", and it is \"bytes FF FF FF FF\"",
-        ),
-        (
-            "01 09 A3",
-            "01 08 A4",
-            "line 18: it says \"reply 00 53 00 01 08 A4\", and it is \"reply 00 53 00 01 09 A3\"",
-        ),
-        (
-            "group 3 0 2",
-            "group 3 0",
-            "line 21: it says \"group 3 0\", and it is \"group 3 0 2\"",
-        ),
-        (
-            "group 4 none",
-            "group 4 0",
-            "line 22: it says \"group 4 0\", and it is \"group 4 none\"",
-        ),
-        (
-            "1 00 00 00 00",
-            "1 00 00 00 01",
-            "line 23: it says \"block 0 1 00 00 00 01\", and it is \"block 0 1 00 00 00 00\"",
-        ),
-    ];
-    for (old, new, message) in changes {
-        assert_eq!(wrong(&CASE.replace(old, new)), [message]);
+    for (old, new, message) in CHANGES {
+        assert_eq!(wrong(&CASE.replace(old, new)), [*message]);
     }
 }
 
@@ -164,46 +165,51 @@ fn a_case_that_says_too_little_is_found() {
     }
 }
 
+const MISTAKES: &[(&str, &str)] = &[
+    ("board a", "line 1: no question was asked yet"),
+    (
+        "question What?\nsilence",
+        "line 2: no call stands before this line",
+    ),
+    (
+        "question What?\nanser So.",
+        "line 2: \"anser\" is no keyword",
+    ),
+    (
+        "question What?\npacket 05 FB\nstep 1",
+        "line 3: a call has one outcome, in the line after it",
+    ),
+    (
+        "question What?\npacket 05 FB\nsilence\nsilence",
+        "line 4: a call has one outcome, in the line after it",
+    ),
+    (
+        "question What?\npacket 05 F",
+        "line 2: a byte has two digits, and at place 4 stands one",
+    ),
+    (
+        "question What?\npacket 00*x",
+        "line 2: \"x\" is no number that can stand here",
+    ),
+    (
+        "question What?\nread 0 FF",
+        "line 2: a read is not written so",
+    ),
+    (
+        "question What?\nwrite unsigned 0 -1 into 1",
+        "line 2: \"-1\" is no number that can stand here",
+    ),
+    (
+        "question What?\nresult 0 due failed",
+        "line 2: a function fails with one error byte",
+    ),
+    ("question What?\nbusy 64", "line 2: \"64\" is no variable"),
+];
+
 #[test]
 fn mistakes_in_a_file_of_cases_are_told_with_their_line() {
-    let mistakes = [
-        ("board a", "line 1: no question was asked yet"),
-        (
-            "question What?\nsilence",
-            "line 2: no call stands before this line",
-        ),
-        (
-            "question What?\nanser So.",
-            "line 2: \"anser\" is no keyword",
-        ),
-        (
-            "question What?\npacket 05 FB\nstep 1",
-            "line 3: a call has one outcome, in the line after it",
-        ),
-        (
-            "question What?\npacket 05 FB\nsilence\nsilence",
-            "line 4: a call has one outcome, in the line after it",
-        ),
-        (
-            "question What?\npacket 05 F",
-            "line 2: a byte has two digits, and at place 4 stands one",
-        ),
-        (
-            "question What?\npacket 00*x",
-            "line 2: \"x\" is no number that can stand here",
-        ),
-        (
-            "question What?\nread 0 FF",
-            "line 2: a read is not written so",
-        ),
-        (
-            "question What?\nwrite unsigned 0 -1 into 1",
-            "line 2: \"-1\" is no number that can stand here",
-        ),
-        ("question What?\nbusy 64", "line 2: \"64\" is no variable"),
-    ];
-    for (lines, message) in mistakes {
-        assert_eq!(parse(lines).expect_err(lines), message);
+    for (lines, message) in MISTAKES {
+        assert_eq!(parse(lines).expect_err(lines), *message);
     }
 }
 

@@ -332,9 +332,7 @@ fn a_board_file_may_describe_what_01_refuses() {
     }
 }
 
-#[test]
-fn mistakes_in_a_board_file_are_told_with_their_line() {
-    let mistakes = [
+const MISTAKES: &[(&str, &str)] = &[
         ("addres 5", "line 2: \"addres\" is none of address, multicast, variable, curve, function, group, busy, values and blocks"),
         ("address", "line 2: the address is missing"),
         ("address 256", "line 2: the address is a number from 0 to 255, and not \"256\""),
@@ -358,9 +356,12 @@ fn mistakes_in_a_board_file_are_told_with_their_line() {
         ("group 0\ngroup 0\ngroup 0\ngroup 0\ngroup 0\ngroup 0", "line 7: the group table has room for five made groups"),
         ("busy 0", "the line with the address is missing"),
     ];
-    for (lines, message) in mistakes {
+
+#[test]
+fn mistakes_in_a_board_file_are_told_with_their_line() {
+    for (lines, message) in MISTAKES {
         let mistake = parse(&format!("# a board\n{}", lines)).expect_err(lines);
-        assert_eq!(mistake.to_string(), message);
+        assert_eq!(mistake.to_string(), *message);
     }
 }
 
@@ -408,35 +409,36 @@ fn said(output: &Output) -> (Option<i32>, String) {
     )
 }
 
+const MISUSES: &[(&[&str], i32, &str)] = &[
+    (&["--sun"], 2, "--sun is no option"),
+    (&["--board"], 2, "--board takes something after it"),
+    (
+        &["--busy", "64"],
+        2,
+        "--busy takes numbers from 0 to 63 with commas between them, and not \"64\"",
+    ),
+    (
+        &["05", "FB"],
+        2,
+        "each argument is a whole packet: put it in quotes",
+    ),
+    (
+        &["05 F"],
+        1,
+        "packet 1: a byte has two digits, and at place 4 stands one",
+    ),
+    (
+        &["--board", "no-such-file"],
+        1,
+        "no-such-file: No such file or directory (os error 2)",
+    ),
+];
+
 #[test]
 fn the_program_ends_with_what_it_promises() {
-    let wrong = [
-        (&["--sun"][..], 2, "--sun is no option"),
-        (&["--board"], 2, "--board takes something after it"),
-        (
-            &["--busy", "64"],
-            2,
-            "--busy takes numbers from 0 to 63 with commas between them, and not \"64\"",
-        ),
-        (
-            &["05", "FB"],
-            2,
-            "each argument is a whole packet: put it in quotes",
-        ),
-        (
-            &["05 F"],
-            1,
-            "packet 1: a byte has two digits, and at place 4 stands one",
-        ),
-        (
-            &["--board", "no-such-file"],
-            1,
-            "no-such-file: No such file or directory (os error 2)",
-        ),
-    ];
-    for (arguments, status, message) in wrong {
+    for (arguments, status, message) in MISUSES {
         let output = whatif(arguments, "");
-        assert_eq!(said(&output), (Some(status), message.to_string()));
+        assert_eq!(said(&output), (Some(*status), message.to_string()));
     }
     let output = whatif(&[], "# one\n\n05 FB\nxx\n");
     assert_eq!(

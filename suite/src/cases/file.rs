@@ -190,15 +190,22 @@ fn call(keyword: &str, words: &[&str]) -> Result<Call, String> {
             })
         }
         ("result", [function, due @ ("due" | "quiet"), ran @ ("gave" | "failed"), words @ ..]) => {
-            Ok(Call::Result {
-                function: number(function)?,
-                due: *due == "due",
-                failed: *ran == "failed",
-                bytes: repeated(words)?,
-            })
+            result(function, *due == "due", *ran == "failed", repeated(words)?)
         }
         _ => Err(format!("a {} is not written so", keyword)),
     }
+}
+
+fn result(function: &str, due: bool, failed: bool, bytes: Vec<u8>) -> Result<Call, String> {
+    if failed && bytes.len() != 1 {
+        return Err("a function fails with one error byte".to_string());
+    }
+    Ok(Call::Result {
+        function: number(function)?,
+        due,
+        failed,
+        bytes,
+    })
 }
 
 fn number<T: std::str::FromStr>(word: &str) -> Result<T, String> {

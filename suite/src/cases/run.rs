@@ -42,12 +42,7 @@ pub fn run(case: &Case, boards: &Boards) -> Result<Vec<Ran>, Vec<String>> {
 fn carry_out(act: &Act, before: &Setting, setting: &mut Setting) -> Ran {
     let mut step = None;
     let outcome = match &act.call {
-        Call::Packet(request) => {
-            let marked = setting.clone();
-            let ended = setting.packet(request);
-            step = step_of(&rule(&ended, Packet(request), &marked));
-            ended_line(&ended)
-        }
+        Call::Packet(request) => packet_line(setting, request, &mut step),
         Call::Store(variable, bytes) => done_line(setting.lent.board_store(*variable, bytes)),
         Call::Read {
             signed,
@@ -70,20 +65,27 @@ fn carry_out(act: &Act, before: &Setting, setting: &mut Setting) -> Ran {
                 Some(error) if *failed => FunctionRan::Failed(*error),
                 _ => FunctionRan::Gave(bytes),
             };
-            let mut reply = [0; MOST_PACKET];
-            ended_line(&Ended::of(
-                setting
-                    .lent
-                    .function_result(*function, *due, ran, &mut reply),
-            ))
+            result_line(setting, *function, *due, ran)
         }
     };
-    let changes = changes(&before.lent, &setting.lent);
     Ran {
         outcome,
         step,
-        changes,
+        changes: changes(&before.lent, &setting.lent),
     }
+}
+
+fn packet_line(setting: &mut Setting, request: &[u8], step: &mut Option<u8>) -> String {
+    let marked = setting.clone();
+    let ended = setting.packet(request);
+    *step = step_of(&rule(&ended, Packet(request), &marked));
+    ended_line(&ended)
+}
+
+fn result_line(setting: &Setting, function: usize, due: bool, ran: FunctionRan) -> String {
+    let mut reply = [0; MOST_PACKET];
+    let outcome = setting.lent.function_result(function, due, ran, &mut reply);
+    ended_line(&Ended::of(outcome))
 }
 
 fn step_of(rule: &Rule) -> Option<u8> {
