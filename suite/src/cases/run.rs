@@ -213,7 +213,7 @@ fn variable(setting: &Setting, number: usize) -> Option<&[u8]> {
 
 fn block_line(setting: &Setting, number: usize, block: usize) -> Option<String> {
     let size = curve(&setting.lent, number)?.size;
-    let start = curve_start(&setting.lent, number) + block * size;
-    let bytes = setting.lent.blocks.get(start..start + size)?;
+    let start = curve_start(&setting.lent, number).checked_add(block.checked_mul(size)?)?;
+    let bytes = setting.lent.blocks.get(start..start.checked_add(size)?)?;
     Some(format!("block {} {} {}", number, block, hex(bytes)))
 }
