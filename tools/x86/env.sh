@@ -10,7 +10,7 @@ x86_kit=$(dirname "$(dirname "$(rt doc)")")/on/$(uname -m)/toolchain
 export RATTLE_LIB=${RATTLE_LIB:-$x86_top/target/staticlib}
 
 if [ "$(uname -m)" = x86_64 ]; then
-    need_packages() { install_missing gcc valgrind; }
+    need_packages() { install_missing gcc g++ valgrind python3 && { command -v cargo >/dev/null || install_missing cargo rustc; }; }
     x86_cc() { gcc "$@"; }
     x86_run() { "$@"; }
     x86_cargo() { cargo "$1" --offline "${@:2}"; }
@@ -18,7 +18,7 @@ if [ "$(uname -m)" = x86_64 ]; then
 else
     need_packages() {
         dpkg --print-foreign-architectures | grep -qx amd64 || { dpkg --add-architecture amd64 && apt-get update -qq; }
-        install_missing rustc cargo libstd-rust-dev:amd64 gcc-x86-64-linux-gnu libc6-dev-amd64-cross
+        install_missing rustc cargo libstd-rust-dev:amd64 gcc-x86-64-linux-gnu libc6-dev-amd64-cross g++ python3
     }
     x86_cc() { x86_64-linux-gnu-gcc "$@"; }
     x86_shim() {
