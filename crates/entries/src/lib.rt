@@ -15,7 +15,7 @@ ghost use Prim.Native.Nat.{min};
 ghost use Rattle.node.specs.Promise.{left};
 ghost use Rattle.results.specs.Results.{replied, kept};
 ghost use Rattle.readings.specs.Answers.{signedReadingOf, unsignedReadingOf, wrote};
-ghost use Rattle.entries.specs.Taken.{countedOf, takenOf};
+ghost use Rattle.entries.specs.Taken.{takenOf};
 ghost use Rattle.entries.specs.Board.{doneWith};
 ghost use Rattle.entries.specs.Comes.{packetOf, resultOf, storeOf, signedOf, unsignedOf, signedBytesOf, unsignedBytesOf};
 
@@ -29,33 +29,28 @@ fn stored(count: usize) -> usize
     64
 }
 
-// So many records, none of them stored yet.
-fn counted(count: usize) -> Records
-    ensures { λ r. ⌜ r ≡ countedOf count ⌝ }
-{
-    Records {
-        count,
-        writable: [0; 64],
-        sizes: [0; 64],
-        kinds: [0; 64],
-    }
-}
-
 // The lent records by columns, in one walk that stores into them in place. More than 64 are counted, and so refused by the work.
 pub fn records_of(variables: &[Variable]) -> Records
     ensures { λ r. ⌜ r ≡ takenOf (now (variables .entry)) ⌝ }
 {
-    let mut records = counted(variables.len());
+    let mut writable = [0u8; 64];
+    let mut sizes = [0u8; 64];
+    let mut kinds = [0u8; 64];
     let n = stored(variables.len());
     let mut i: usize = 0;
     while i < n {
         let v = variables[i];
-        records.writable[i] = v.writable;
-        records.sizes[i] = v.size;
-        records.kinds[i] = v.kind;
+        writable[i] = v.writable;
+        sizes[i] = v.size;
+        kinds[i] = v.kind;
         i += 1;
     }
-    records
+    Records {
+        count: variables.len(),
+        writable,
+        sizes,
+        kinds,
+    }
 }
 
 // A packet: its outcome, with the reply in the reply buffer; the stores and the group table are changed in place.
