@@ -8,11 +8,8 @@ use native.Mathlib.Decide.{decLt}
 use lib.ListN.{length, take, drop, getD, set, length-append, length-take, length-drop, length-set, List·getD-append}
 use lib.Seq.{take-all, getD-take, getD-drop, getD-append-add, ext-getD}
 use Rattle.bsmp.specs.Base.{sum, join, cut}
-use Rattle.bsmp.specs.Board.{Table, Layout, layout, State, sizesOf, writableOf, blockSizes, usable}
-use Rattle.bsmp.specs.Packet.{Result, refuse}
-use Rattle.bsmp.specs.declared.Refusal.{Refusal}
-use Rattle.bsmp.specs.declared.Outcome.the-variants as O
-use Rattle.bsmp.proofs.Store.{join-cut}
+use Rattle.bsmp.specs.Board.{Table, Layout, layout, State, sizesOf, writableOf, usable}
+use Rattle.bsmp.specs.Packet.{Result}
 use Rattle.lists.specs.Put.{put}
 use Rattle.lists.proofs.Put.{set-put}
 use Rattle.sets.specs.Promises.{Sound}
@@ -26,8 +23,7 @@ use Rattle.variables.proofs.Listing.{sizes-usable}
 use Rattle.serve.specs.Serve.{lentLayout, heldBy, Standing, regrouped}
 use Rattle.serve.specs.declared.Regroup.{Regroup}
 use Rattle.serve.specs.declared.Regroup.the-variants.{Keep, Make, Remove}
-use Rattle.node.specs.Promise.{lentState, tableWith, lasting, left, Leaves, Fits, Ready}
-use Rattle.node.specs.declared.Done.{Done}
+use Rattle.node.specs.Promise.{lentState, tableWith, Leaves, Fits, Ready}
 
 -- the table of the groups that it holds is the table, whatever its count
 module _ (g : Groups) (five : length (g .sets) ≡ 5) where
@@ -78,17 +74,6 @@ pub table-without : (g x : Groups) → length (g .sets) ≡ 5 → (groupsOf x �
 table-without g x five e =
     let c : x .count ≡ 0 = group-count x ∙ ap length (e .0) in
     λ i. record { count = c i; sets = (e .1 ∙ sym (take-all 5 (g .sets) (omega arith))) i }
-
--- a refusal leaves everything as it was, whatever the stores' lengths
-pub refused-left : (t : Table) (d : Done) (x : Refusal) (g : Groups) (r vs bs : List ℕ) → length (g .sets) ≡ 5 → (d .outcome ≡ O.Refused x) × (d .groups ≡ g)
-    → left d r vs bs ≡ lasting (refuse (lentState t vs bs g) x) r g
-refused-left t d x g r vs bs five e = λ i. record {
-  outcome = e .0 i;
-  groups = (e .1 ∙ table-same g five) i;
-  reply = r;
-  values = sym (join-cut (layout t .sizes) vs) i;
-  blocks = sym (join-cut (blockSizes (layout t .curves)) bs) i;
-}
 
 -- a usable board ---------------------------------------------------------------------------------------------------------------
 module _ (r : Records) (cs fs : List ℕ) (g : Groups) (vs bs : List ℕ) (w : ℕ) (h : Ready (tableOf r cs fs) (lentState (tableOf r cs fs) vs bs g) w) where

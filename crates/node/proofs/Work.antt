@@ -8,16 +8,17 @@ use borrow.Rule.Slice.PartMut.{midOf}
 use lib.Dec.{ltb}
 use lib.ListN.{length, take, length-append}
 use borrow.Author.Tests.{le-ltb, lt-ltb}
-use Rattle.bsmp.specs.Base.{join, first}
+use Rattle.bsmp.specs.Base.{join}
 use Rattle.bsmp.specs.Board.{Table, Layout, layout, State, blockSizes, usable}
 use Rattle.bsmp.specs.Message.{handled}
-use Rattle.bsmp.specs.Packet.{Place, Result, refuse, usablePlace, boardTests, packetTests, answered, isOwn, destination, message, packet}
+use Rattle.bsmp.specs.Packet.{Place, Result, refuse, usablePlace, boardTests, answered, packet}
 use Rattle.bsmp.specs.declared.Refusal.{Refusal}
 use Rattle.bsmp.specs.declared.Refusal.the-variants.{BoardUnusable, BadAddress, ReplyBufferShort}
 use Rattle.bsmp.specs.declared.Outcome.{Outcome}
 use Rattle.bsmp.specs.declared.Outcome.the-variants as O
 use Rattle.bsmp.proofs.Chain.{first-next, first-stop, first-end}
-use Rattle.bsmp.proofs.Stays.{kept, handled-usable}
+use Rattle.bsmp.specs.Apart.{arrives}
+use Rattle.bsmp.proofs.Stays.{kept, stays}
 use Rattle.bsmp.proofs.Store.{join-cut}
 use Rattle.parts.proofs.Told.{not-on, not-off}
 use Rattle.records.specs.Lending.{groupsOf, tableOf, lent}
@@ -31,20 +32,19 @@ use Rattle.records.proofs.Sound.{groups-most}
 use Rattle.wire.specs.Opening.{placed, openedOf}
 use Rattle.wire.specs.declared.Opened.{Opened}
 use Rattle.wire.specs.declared.Opened.the-variants.{Message, Refused}
-use Rattle.wire.proofs.Opening.{first-through, refused-first, message-first, message-due, message-lent}
+use Rattle.wire.proofs.Opening.{refused-first, message-first, message-due, message-lent}
 use Rattle.serve.specs.Serve.{lentLayout, heldBy, Standing, regrouped}
 use Rattle.serve.specs.declared.Regroup.{Regroup}
-use Rattle.serve.specs.declared.Regroup.the-variants.{Make}
-use Rattle.node.specs.Promise.{lentState, tableWith, lasting, left, unopenedOf, Leaves, Fits, Ready}
+use Rattle.serve.specs.declared.Regroup.the-variants.{Keep, Make}
+use Rattle.node.specs.Promise.{lentState, tableWith, lasting, left, unopenedOf, receivedOf, Leaves, Fits, Ready}
 use Rattle.node.specs.declared.Handled.{Handled}
-use Rattle.node.specs.declared.Done.{Done}
-use Rattle.node.proofs.Tables.{few-records, few-groups, layout-is, standing, refused-left}
+use Rattle.node.proofs.Tables.{few-groups, layout-is, standing}
 
 -- the front of an array, as it is lent
 front : (n : ℕ) (l : List ℕ) → midOf 0 (n - 0) l ≡ take n l
 front n l = let e : n - 0 ≡ n = omega arith in ap (λ k. take k l) e
 
--- a message with records and group table by value -----------------------------------------------------------------------------
+-- a usable board, lent by its parts -------------------------------------------------------------------------------------------
 module _ (r : Records) (cs fs : List ℕ) (g : Groups) (vs bs : List ℕ) (w : ℕ) (h : Ready (tableOf r cs fs) (lentState (tableOf r cs fs) vs bs g) w)
     (s64 : length (r .sizes) ≡ 64) (s5 : length (g .sets) ≡ 5) where
   abbrev T : Table
@@ -59,8 +59,8 @@ module _ (r : Records) (cs fs : List ℕ) (g : Groups) (vs bs : List ℕ) (w : �
   abbrev L : Layout
   L = lentLayout sizes w cs fs
 
-  pub carry-standing : Standing sizes cs fs made vs bs
-  carry-standing = rw (front (r .count) (r .sizes), front (g .count) (g .sets)) (standing r cs fs g vs bs w h s64 s5)
+  pub lent-standing : Standing sizes cs fs made vs bs
+  lent-standing = rw (front (r .count) (r .sizes), front (g .count) (g .sets)) (standing r cs fs g vs bs w h s64 s5)
 
   layout-same : L ≡ layout T
   layout-same = ap (λ ns. lentLayout ns w cs fs) (front (r .count) (r .sizes)) ∙ layout-is r cs fs g vs bs w h s64
@@ -68,61 +68,30 @@ module _ (r : Records) (cs fs : List ℕ) (g : Groups) (vs bs : List ℕ) (w : �
   made-same : made ≡ groupsOf g
   made-same = front (g .count) (g .sets) ∙ sym (groups-lent g (omega (arith, few-groups r cs fs g vs bs w h)))
 
-  module _ (due : Bool) (busy : ℕ) (m b b′ vs′ bs′ : List ℕ) (x : Handled)
-      (k : Leaves (answered due (handled L busy m (heldBy L vs bs made))) L made b x b′ vs′ bs′) where
-    abbrev X : Result
-    X = answered due (handled (layout T) busy m (lentState T vs bs g))
-
-    leaves-table : Leaves X (layout T) (groupsOf g) b x b′ vs′ bs′
-    leaves-table =
-        subst (λ gs. Leaves (answered due (handled (layout T) busy m (heldBy (layout T) vs bs gs))) (layout T) gs b x b′ vs′ bs′) made-same
-        (subst (λ l. Leaves (answered due (handled l busy m (heldBy l vs bs made))) l made b x b′ vs′ bs′) layout-same k)
-
-    pub carry-fits : Fits (x .regroup) g
-    carry-fits = record { few = few-groups r cs fs g vs bs w h; room = room }
-      where
-        room : (n : ℕ) → x .regroup ≡ Make n → g .count < 5
-        room n e =
-            let u : usable T (X .state) ≡ true = handled-usable T busy m (lentState T vs bs g) (h .usable-is) in
-            let q : regrouped (x .regroup) (groupsOf g) ≡ X .state .groups = ap (λ s. s .groups) (leaves-table .holds) in
-            let p : groupsOf g ++ n ∷ [] ≡ X .state .groups = ap (λ y. regrouped y (groupsOf g)) (sym e) ∙ q in
-            let l : length (groupsOf g ++ n ∷ []) ≤ 5 = rw p (groups-most _ (X .state .groups) (kept T (X .state) u .groups)) in
-            let c : length (groupsOf g ++ n ∷ []) ≡ length (groupsOf g) + 1 = simp length-append in
-            omega (arith, group-count g)
-
-    pub carry-left : (y : Groups) → y ≡ tableWith (regrouped (x .regroup) (groupsOf g)) g
-        → left (record { outcome = x .outcome; groups = y }) b′ vs′ bs′ ≡ lasting X b g
-    carry-left y e =
-        let z : heldBy (layout T) vs′ bs′ (regrouped (x .regroup) (groupsOf g)) ≡ X .state = leaves-table .holds in
-        λ i. record {
-          outcome = leaves-table .outcome i;
-          groups = (e ∙ ap (λ s. tableWith (s .groups) g) z) i;
-          reply = leaves-table .reply i;
-          values = (sym (join-cut (layout T .sizes) vs′) ∙ ap (λ s. join (s .values)) z) i;
-          blocks = (sym (join-cut (blockSizes (layout T .curves)) bs′) ∙ ap (λ s. join (s .blocks)) z) i;
-        }
+  pub lent-leaves : (a : Place) (busy : ℕ) (p b b′ vs′ bs′ : List ℕ) (x : Handled) → Leaves (receivedOf L a busy p (heldBy L vs bs made)) L made b x b′ vs′ bs′
+      → Leaves (receivedOf (layout T) a busy p (lentState T vs bs g)) (layout T) (groupsOf g) b x b′ vs′ bs′
+  lent-leaves a busy p b b′ vs′ bs′ x k =
+      subst (λ gs. Leaves (receivedOf (layout T) a busy p (heldBy (layout T) vs bs gs)) (layout T) gs b x b′ vs′ bs′) made-same
+      (subst (λ l. Leaves (receivedOf l a busy p (heldBy l vs bs made)) l made b x b′ vs′ bs′) layout-same k)
 
 -- a packet on a usable board ----------------------------------------------------------------------------------------------------
-module _ (t : Table) (g : Groups) (vs bs b : List ℕ) (own mc busy : ℕ) (p : List ℕ) (o : Opened) (e : o ≡ openedOf (placed own mc) p) where
+module _ (l : Layout) (gs vs bs b : List ℕ) (own mc busy : ℕ) (p : List ℕ) (o : Opened) (e : o ≡ openedOf (placed own mc) p) where
   abbrev S : State
-  S = lentState t vs bs g
+  S = heldBy l vs bs gs
 
   abbrev Received : Result
-  Received = first (packetTests (placed own mc) p) (refuse S) (answered (isOwn (placed own mc) (destination p)) (handled (layout t) busy (message p) S))
+  Received = receivedOf l (placed own mc) busy p S
 
-  pub receive-refused : (d : Done) (x : Refusal) → length (g .sets) ≡ 5 → o ≡ Refused x → (d .outcome ≡ unopenedOf o) × (d .groups ≡ g)
-      → left d b vs bs ≡ lasting Received b g
-  receive-refused d x five q f =
-      refused-first own mc p (λ n. lasting (refuse S n) b g) _ _ o x e q (refused-left t d x g b vs bs five (f .0 ∙ ap unopenedOf q, f .1))
-      ∙ sym (first-through (λ y. lasting y b g) (packetTests (placed own mc) p) (refuse S) _)
+  pub receive-refused : (y : Outcome) (x : Refusal) → o ≡ Refused x → y ≡ unopenedOf o → Leaves Received l gs b (record { outcome = y; regroup = Keep }) b vs bs
+  receive-refused y x q f =
+      subst (λ z. Leaves z l gs b (record { outcome = y; regroup = Keep }) b vs bs) (refused-first own mc p (refuse S) _ (refuse S x) o x e q refl)
+      (record { outcome = f ∙ ap unopenedOf q; reply = refl; holds = refl })
 
-  pub receive-carried : (due : Bool) (d : Done) (b′ vs′ bs′ : List ℕ) → o ≡ Message due
-      → left d b′ vs′ bs′ ≡ lasting (answered due (handled (layout t) busy (midOf 1 (length p - 1 - 1) p) S)) b g
-      → left d b′ vs′ bs′ ≡ lasting Received b g
-  receive-carried due d b′ vs′ bs′ q f =
-      message-first own mc p (λ n. lasting (refuse S n) b g) _ _ o due e q
-      (f ∙ ap₂ (λ y m. lasting (answered y (handled (layout t) busy m S)) b g) (message-due own mc p o due e q) (message-lent p))
-      ∙ sym (first-through (λ y. lasting y b g) (packetTests (placed own mc) p) (refuse S) _)
+  pub receive-handled : (due : Bool) (x : Handled) (b′ vs′ bs′ : List ℕ) → o ≡ Message due
+      → Leaves (answered due (handled l busy (midOf 1 (length p - 1 - 1) p) S)) l gs b x b′ vs′ bs′ → Leaves Received l gs b x b′ vs′ bs′
+  receive-handled due x b′ vs′ bs′ q k =
+      subst (λ z. Leaves z l gs b x b′ vs′ bs′)
+      (message-first own mc p (refuse S) _ _ o due e q (ap₂ (λ y m. answered y (handled l busy m S)) (message-due own mc p o due e q) (message-lent p))) k
 
 pub board-ready : (r : Records) (cs fs : List ℕ) (g : Groups) (vs bs : List ℕ) (c : Board) → c ≡ boardOf (tableOf r cs fs) (lent vs bs (groupsOf g))
     → c .usable ≡ true → Ready (tableOf r cs fs) (lentState (tableOf r cs fs) vs bs g) (c .writable)
@@ -142,38 +111,75 @@ module _ (r : Records) (cs fs : List ℕ) (g : Groups) (vs bs b : List ℕ) (own
   Promised = packet Q (placed own mc) busy (length b) p State₀
 
   -- refusals 1 to 3, and the rest
-  stopped : (x : Refusal) (d : Done) → length (g .sets) ≡ 5 → refuse State₀ x ≡ Promised → (d .outcome ≡ O.Refused x) × (d .groups ≡ g)
-      → left d b vs bs ≡ lasting Promised b g
-  stopped x d five q f = refused-left Q d x g b vs bs five f ∙ ap (λ y. lasting y b g) q
+  stopped : (n : Refusal) (x : Handled) → refuse State₀ n ≡ Promised → (x .outcome ≡ O.Refused n) × (x .regroup ≡ Keep)
+      → Leaves Promised (layout Q) (groupsOf g) b x b vs bs
+  stopped n x q f =
+      subst (λ z. Leaves z (layout Q) (groupsOf g) b x b vs bs) q
+      (record { outcome = f .0; reply = refl; holds = ap (λ y. heldBy (layout Q) vs bs (regrouped y (groupsOf g))) (f .1) })
 
-  pub packet-unusable : (d : Done) → length (g .sets) ≡ 5 → c .usable ≡ false → (d .outcome ≡ O.Refused BoardUnusable) × (d .groups ≡ g)
-      → left d b vs bs ≡ lasting Promised b g
+  pub packet-unusable : (x : Handled) → c .usable ≡ false → (x .outcome ≡ O.Refused BoardUnusable) × (x .regroup ≡ Keep)
+      → Leaves Promised (layout Q) (groupsOf g) b x b vs bs
   unfolding packet
-  packet-unusable d five u f =
-      stopped BoardUnusable d five (first-stop _ _ _ _ _ _ _ (not-on _ (sym (board-usable Q _ c e) ∙ u)) refl) f
+  packet-unusable x u f = stopped BoardUnusable x (first-stop _ _ _ _ _ _ _ (not-on _ (sym (board-usable Q _ c e) ∙ u)) refl) f
 
   module _ (u : c .usable ≡ true) (a : Bool) (pl : a ≡ usablePlace (placed own mc)) where
     usable-off : not (usable Q State₀) ≡ false
     usable-off = not-off _ (sym (board-usable Q _ c e) ∙ u)
 
-    pub packet-place : (d : Done) → length (g .sets) ≡ 5 → a ≡ false → (d .outcome ≡ O.Refused BadAddress) × (d .groups ≡ g)
-        → left d b vs bs ≡ lasting Promised b g
+    pub packet-place : (x : Handled) → a ≡ false → (x .outcome ≡ O.Refused BadAddress) × (x .regroup ≡ Keep)
+        → Leaves Promised (layout Q) (groupsOf g) b x b vs bs
     unfolding packet
-    packet-place d five v f =
-        stopped BadAddress d five (first-next _ _ _ _ _ _ _ usable-off (first-stop _ _ _ _ _ _ _ (not-on _ (sym pl ∙ v)) refl)) f
+    packet-place x v f = stopped BadAddress x (first-next _ _ _ _ _ _ _ usable-off (first-stop _ _ _ _ _ _ _ (not-on _ (sym pl ∙ v)) refl)) f
 
-    pub packet-short : (d : Done) → length (g .sets) ≡ 5 → a ≡ true → length b < 4104 → (d .outcome ≡ O.Refused ReplyBufferShort) × (d .groups ≡ g)
-        → left d b vs bs ≡ lasting Promised b g
+    pub packet-short : (x : Handled) → a ≡ true → length b < 4104 → (x .outcome ≡ O.Refused ReplyBufferShort) × (x .regroup ≡ Keep)
+        → Leaves Promised (layout Q) (groupsOf g) b x b vs bs
     unfolding packet
-    packet-short d five v n f =
-        stopped ReplyBufferShort d five
+    packet-short x v n f =
+        stopped ReplyBufferShort x
         (first-next _ _ _ _ _ _ _ usable-off (first-next _ _ _ _ _ _ _ (not-off _ (sym pl ∙ v)) (first-stop _ _ _ _ _ _ _ (lt-ltb _ _ n) refl))) f
 
-    pub packet-received : (d : Done) (b′ vs′ bs′ : List ℕ) → a ≡ true → 4104 ≤ length b
-        → left d b′ vs′ bs′
-        ≡ lasting (first (packetTests (placed own mc) p) (refuse State₀) (answered (isOwn (placed own mc) (destination p)) (handled (layout Q) busy (message p) State₀))) b g
-        → left d b′ vs′ bs′ ≡ lasting Promised b g
+    pub packet-received : (x : Handled) (b′ vs′ bs′ : List ℕ) → a ≡ true → 4104 ≤ length b
+        → Leaves (receivedOf (layout Q) (placed own mc) busy p State₀) (layout Q) (groupsOf g) b x b′ vs′ bs′
+        → Leaves Promised (layout Q) (groupsOf g) b x b′ vs′ bs′
     unfolding packet
-    packet-received d b′ vs′ bs′ v n f =
-        f ∙ ap (λ y. lasting y b g)
-        (first-next _ _ _ _ _ _ _ usable-off (first-next _ _ _ _ _ _ _ (not-off _ (sym pl ∙ v)) (first-next _ _ _ _ _ _ _ (le-ltb _ _ n) (first-end _ _ _ refl))))
+    packet-received x b′ vs′ bs′ v n k =
+        subst (λ z. Leaves z (layout Q) (groupsOf g) b x b′ vs′ bs′)
+        (first-next _ _ _ _ _ _ _ usable-off (first-next _ _ _ _ _ _ _ (not-off _ (sym pl ∙ v)) (first-next _ _ _ _ _ _ _ (le-ltb _ _ n) (first-end _ _ _ refl)))) k
+
+-- .. and the group table that it leaves -----------------------------------------------------------------------------------------
+module _ (t : Table) (a : Place) (busy : ℕ) (p : List ℕ) (g : Groups) (vs bs b : List ℕ) (x : Handled) (b′ vs′ bs′ : List ℕ)
+    (k : Leaves (packet t a busy (length b) p (lentState t vs bs g)) (layout t) (groupsOf g) b x b′ vs′ bs′) where
+  abbrev X : Result
+  X = packet t a busy (length b) p (lentState t vs bs g)
+
+  -- a group is made on a usable board only, which stays usable
+  few : (u : Bool) → usable t (lentState t vs bs g) ≡ u → (n : ℕ) → x .regroup ≡ Make n → g .count < 5
+  unfolding packet
+  few true h n e =
+      let q : regrouped (x .regroup) (groupsOf g) ≡ X .state .groups = ap (λ s. s .groups) (k .holds) in
+      let m : groupsOf g ++ n ∷ [] ≡ X .state .groups = ap (λ y. regrouped y (groupsOf g)) (sym e) ∙ q in
+      let w = kept t (X .state) (stays t a (arrives busy (length b) p) (lentState t vs bs g) h) in
+      let l : length (groupsOf g ++ n ∷ []) ≤ 5 = rw m (groups-most _ (X .state .groups) (w .groups)) in
+      let c : length (groupsOf g ++ n ∷ []) ≡ length (groupsOf g) + 1 = simp length-append in
+      omega (arith, group-count g)
+  few false h n e =
+      let r : refuse (lentState t vs bs g) BoardUnusable ≡ X = first-stop _ _ _ _ _ _ _ (not-on _ h) refl in
+      let q : regrouped (x .regroup) (groupsOf g) ≡ X .state .groups = ap (λ s. s .groups) (k .holds) in
+      let m : groupsOf g ++ n ∷ [] ≡ groupsOf g = ap (λ y. regrouped y (groupsOf g)) (sym e) ∙ q ∙ sym (ap (λ z. z .state .groups) r) in
+      let c : length (groupsOf g ++ n ∷ []) ≡ length (groupsOf g) + 1 = simp length-append in
+      absurd (omega (arith, c, ap length m))
+
+  pub packet-fits : Fits (x .regroup) g
+  packet-fits = record { room = few (usable t (lentState t vs bs g)) refl }
+
+  pub packet-left : (y : Groups) → y ≡ tableWith (regrouped (x .regroup) (groupsOf g)) g
+      → left (record { outcome = x .outcome; groups = y }) b′ vs′ bs′ ≡ lasting X b g
+  packet-left y e =
+      let z : heldBy (layout t) vs′ bs′ (regrouped (x .regroup) (groupsOf g)) ≡ X .state = k .holds in
+      λ i. record {
+        outcome = k .outcome i;
+        groups = (e ∙ ap (λ s. tableWith (s .groups) g) z) i;
+        reply = k .reply i;
+        values = (sym (join-cut (layout t .sizes) vs′) ∙ ap (λ s. join (s .values)) z) i;
+        blocks = (sym (join-cut (blockSizes (layout t .curves)) bs′) ∙ ap (λ s. join (s .blocks)) z) i;
+      }

@@ -4,7 +4,7 @@ use mathlib.Core.Bool.{Bool, true, false}
 use mathlib.Core.List.{List, _++_}
 use Prim.Native.Nat.{ℕ, _≤_, _<_}
 use lib.ListN.{length, take, drop}
-use Rattle.bsmp.specs.Base.{join, byteAt}
+use Rattle.bsmp.specs.Base.{join, byteAt, first}
 use Rattle.bsmp.specs.Codes.{commandOf}
 use Rattle.bsmp.specs.Board.{Table, Layout, layout, State, usable}
 use Rattle.bsmp.specs.Message.{Said, line, asked, said, spoken, handled}
@@ -62,6 +62,10 @@ abbrev pub unopenedOf : Opened → Outcome
 unopenedOf (O.Refused r) = Refused r
 unopenedOf (O.Message due) = Silence
 
+-- a packet on a usable board, with a reply buffer that is long enough
+abbrev pub receivedOf : Layout → Place → (busy : ℕ) → (request : List ℕ) → State → Result
+receivedOf l a busy p s = first (packetTests a p) (refuse s) (answered (isOwn a (destination p)) (handled l busy (message p) s))
+
 -- for the functions below the entry ---------------------------------------------------------------------------------------
 -- what is said, as it ends where an answer is due or not
 pub record Ended (due : Bool) (x : Said) (r : List ℕ) (o : Outcome) (r′ : List ℕ) : Type 0 where
@@ -88,7 +92,6 @@ pub record Leaves (x : Result) (l : Layout) (gs r : List ℕ) (h : Handled) (r�
 
 -- a group table with room for what a message makes
 pub record Fits (r : Regroup) (g : Groups) : Type 0 where
-  pub few : g .count ≤ 5
   pub room : (m : ℕ) → r ≡ Make m → g .count < 5
 
 -- a usable board as it is lent, with the writable variables as marks

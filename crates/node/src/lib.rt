@@ -12,17 +12,17 @@ ghost use mathlib.Core.Path.{_≡_};
 ghost use mathlib.Core.Bool.{true};
 ghost use Prim.Native.Nat.{_+_, _≤_, _<_};
 ghost use lib.ListN.{length};
-ghost use Rattle.bsmp.specs.Base.{first};
 ghost use Rattle.bsmp.specs.Board.{layout};
 ghost use Rattle.bsmp.specs.Message.{asked, said, handled};
-ghost use Rattle.bsmp.specs.Packet.{packetTests, refuse, answered, isOwn, destination, message, packet};
+ghost use Rattle.bsmp.specs.Packet.{answered, packet};
 ghost use Rattle.bsmp.specs.declared.Command.the-variants.{RunFunction};
 ghost use Rattle.bsmp.specs.declared.Check.the-variants.{Pass};
 ghost use Rattle.bsmp.specs.declared.Outcome.the-variants as O;
 ghost use Rattle.records.specs.Lending.{groupsOf, tableOf};
 ghost use Rattle.serve.specs.Serve.{lentLayout, heldBy, Standing, regrouped, Judged};
-ghost use Rattle.wire.specs.Opening.{placed, openedOf};
-ghost use Rattle.node.specs.Promise.{lentState, tableWith, lasting, left, unopenedOf, Ended, Quiet, Unanswered, Heard, Leaves, Fits, Ready};
+ghost use Rattle.serve.specs.declared.Regroup.the-variants.{Keep};
+ghost use Rattle.wire.specs.Opening.{placed};
+ghost use Rattle.node.specs.Promise.{lentState, tableWith, lasting, left, unopenedOf, receivedOf, Ended, Quiet, Unanswered, Heard, Leaves, Fits};
 
 // How the work of a message ended, and what it makes of the made groups.
 pub struct Handled {
@@ -166,79 +166,33 @@ fn regroup(groups: Groups, r: Regroup) -> Groups
     }
 }
 
-// A message on a usable board, with records and group table by value.
-fn carry(
-    due: bool,
-    records: Records,
-    writable: u64,
-    curves: &[u32],
-    functions: &[u8],
-    groups: Groups,
-    values: &mut [u8],
-    blocks: &mut [u8],
-    message: &[u8],
-    busy: u64,
-    reply: &mut [u8],
-) -> Done
-    requires { ⌜ Ready (tableOf records (now curves) (now functions)) (lentState (tableOf records (now curves) (now functions)) (now values) (now blocks) groups) writable ⌝ }
-    requires { ⌜ 4104 ≤ length (now reply) ⌝ }
-    ensures { λ r. ⌜ left r (now (reply .exit)) (now (values .exit)) (now (blocks .exit))
-        ≡ lasting (answered due (handled (layout (tableOf records (now (curves .entry)) (now (functions .entry)))) busy (now (message .entry)) (lentState (tableOf records (now (curves .entry)) (now (functions .entry))) (now (values .entry)) (now (blocks .entry)) groups))) (now (reply .entry)) groups ⌝ }
+fn refused(refusal: Refusal) -> Handled
+    ensures { λ r. ⌜ (r .outcome ≡ O.Refused refusal) × (r .regroup ≡ Keep) ⌝ }
 {
-    let count = records.count;
-    let sizes = records.sizes;
-    let made = groups.count;
-    let sets = groups.sets;
-    let h = handle(
-        due,
-        &sizes[0..count],
-        writable,
-        curves,
-        functions,
-        &sets[0..made],
-        values,
-        blocks,
-        message,
-        busy,
-        reply,
-    );
-    let outcome = h.outcome;
-    let change = h.regroup;
-    Done {
-        outcome,
-        groups: regroup(groups, change),
-    }
-}
-
-fn refused(refusal: Refusal, groups: Groups) -> Done
-    ensures { λ r. ⌜ (r .outcome ≡ O.Refused refusal) × (r .groups ≡ groups) ⌝ }
-{
-    Done {
+    let regroup = Regroup::Keep;
+    Handled {
         outcome: Outcome::Refused(refusal),
-        groups,
+        regroup,
     }
 }
 
 // The refusal of a packet that yields no message.
-fn unopened(o: Opened, groups: Groups) -> Done
-    ensures { λ r. ⌜ (r .outcome ≡ unopenedOf o) × (r .groups ≡ groups) ⌝ }
+fn unopened(o: Opened) -> Outcome
+    ensures { λ r. ⌜ r ≡ unopenedOf o ⌝ }
 {
     match o {
-        Opened::Refused(refusal) => refused(refusal, groups),
-        Opened::Message { due: _ } => Done {
-            outcome: Outcome::Silence,
-            groups,
-        },
+        Opened::Refused(refusal) => Outcome::Refused(refusal),
+        Opened::Message { due: _ } => Outcome::Silence,
     }
 }
 
-// A packet on a usable board, with a reply buffer that is long enough.
+// A packet on a usable board, over what is lent, with a reply buffer that is long enough.
 fn receive(
-    records: Records,
+    sizes: &[u8],
     writable: u64,
     curves: &[u32],
     functions: &[u8],
-    groups: Groups,
+    groups: &[u64],
     own: u8,
     multicast: u8,
     busy: u64,
@@ -246,22 +200,22 @@ fn receive(
     blocks: &mut [u8],
     request: &[u8],
     reply: &mut [u8],
-) -> Done
-    requires { ⌜ Ready (tableOf records (now curves) (now functions)) (lentState (tableOf records (now curves) (now functions)) (now values) (now blocks) groups) writable ⌝ }
+) -> Handled
+    requires { ⌜ Standing (now sizes) (now curves) (now functions) (now groups) (now values) (now blocks) ⌝ }
     requires { ⌜ 4104 ≤ length (now reply) ⌝ }
-    ensures { λ r. ⌜ left r (now (reply .exit)) (now (values .exit)) (now (blocks .exit))
-        ≡ lasting (first (packetTests (placed own multicast) (now (request .entry))) (refuse (lentState (tableOf records (now (curves .entry)) (now (functions .entry))) (now (values .entry)) (now (blocks .entry)) groups))
-        (answered (isOwn (placed own multicast) (destination (now (request .entry)))) (handled (layout (tableOf records (now (curves .entry)) (now (functions .entry)))) busy (message (now (request .entry))) (lentState (tableOf records (now (curves .entry)) (now (functions .entry))) (now (values .entry)) (now (blocks .entry)) groups))))
-        (now (reply .entry)) groups ⌝ }
+    ensures { λ r. ⌜ Leaves (receivedOf (lentLayout (now (sizes .entry)) writable (now (curves .entry)) (now (functions .entry))) (placed own multicast) busy (now (request .entry)) (heldBy (lentLayout (now (sizes .entry)) writable (now (curves .entry)) (now (functions .entry))) (now (values .entry)) (now (blocks .entry)) (now (groups .entry))))
+        (lentLayout (now (sizes .entry)) writable (now (curves .entry)) (now (functions .entry))) (now (groups .entry)) (now (reply .entry)) r (now (reply .exit)) (now (values .exit)) (now (blocks .exit)) ⌝ }
 {
     let o = wire::open(request, own, multicast);
     let Opened::Message { due } = o else {
-        return unopened(o, groups);
+        let outcome = unopened(o);
+        let regroup = Regroup::Keep;
+        return Handled { outcome, regroup };
     };
     let end = request.len() - 1;
-    carry(
+    handle(
         due,
-        records,
+        sizes,
         writable,
         curves,
         functions,
@@ -272,6 +226,66 @@ fn receive(
         busy,
         reply,
     )
+}
+
+// Any packet, on any board. What it makes of the made groups is told and not yet done, so that the table goes through no more hands.
+fn carry(
+    records: Records,
+    curves: &[u32],
+    functions: &[u8],
+    groups: Groups,
+    own: u8,
+    multicast: u8,
+    busy: u64,
+    values: &mut [u8],
+    blocks: &mut [u8],
+    request: &[u8],
+    reply: &mut [u8],
+) -> Handled
+    ensures { λ r. ⌜ Leaves (packet (tableOf records (now (curves .entry)) (now (functions .entry))) (placed own multicast) busy (length (now (reply .entry))) (now (request .entry)) (lentState (tableOf records (now (curves .entry)) (now (functions .entry))) (now (values .entry)) (now (blocks .entry)) groups))
+        (layout (tableOf records (now (curves .entry)) (now (functions .entry)))) (groupsOf groups) (now (reply .entry)) r (now (reply .exit)) (now (values .exit)) (now (blocks .exit)) ⌝ }
+{
+    let count = records.count;
+    let types = records.writable;
+    let sizes = records.sizes;
+    let kinds = records.kinds;
+    let board = records::usable_board(
+        count,
+        &types,
+        &sizes,
+        &kinds,
+        curves,
+        functions,
+        groups,
+        values,
+        blocks,
+    );
+    if board.usable {
+        if wire::usable_place(own, multicast) {
+            if reply.len() < 4104 {
+                return refused(Refusal::ReplyBufferShort);
+            }
+            let writable = board.writable;
+            let made = groups.count;
+            let sets = groups.sets;
+            return receive(
+                &sizes[0..count],
+                writable,
+                curves,
+                functions,
+                &sets[0..made],
+                own,
+                multicast,
+                busy,
+                values,
+                blocks,
+                request,
+                reply,
+            );
+        }
+        return refused(Refusal::BadAddress);
+    }
+    refused(Refusal::BoardUnusable)
 }
 
 // Any packet, on any board.
@@ -292,29 +306,23 @@ pub fn packet(
         ≡ lasting (packet (tableOf records (now (curves .entry)) (now (functions .entry))) (placed own multicast) busy (length (now (reply .entry))) (now (request .entry)) (lentState (tableOf records (now (curves .entry)) (now (functions .entry))) (now (values .entry)) (now (blocks .entry)) groups))
         (now (reply .entry)) groups ⌝ }
 {
-    let board = records::usable_board(records, curves, functions, groups, values, blocks);
-    if board.usable {
-        if wire::usable_place(own, multicast) {
-            if reply.len() < 4104 {
-                return refused(Refusal::ReplyBufferShort, groups);
-            }
-            let writable = board.writable;
-            return receive(
-                records,
-                writable,
-                curves,
-                functions,
-                groups,
-                own,
-                multicast,
-                busy,
-                values,
-                blocks,
-                request,
-                reply,
-            );
-        }
-        return refused(Refusal::BadAddress, groups);
+    let h = carry(
+        records,
+        curves,
+        functions,
+        groups,
+        own,
+        multicast,
+        busy,
+        values,
+        blocks,
+        request,
+        reply,
+    );
+    let outcome = h.outcome;
+    let change = h.regroup;
+    Done {
+        outcome,
+        groups: regroup(groups, change),
     }
-    refused(Refusal::BoardUnusable, groups)
 }

@@ -68,16 +68,20 @@ fn is_big(kind: Kind) -> bool
 fn judge(records: Records, variable: VariableNumber, signed: bool, bytes: usize) -> Judged
     ensures { λ r. ⌜ r ≡ judgedOf (recordsOf records) variable signed bytes ⌝ }
 {
-    if !records::usable_records(records).usable {
+    let count = records.count;
+    let writable = records.writable;
+    let sizes = records.sizes;
+    let kinds = records.kinds;
+    if !records::usable_records(count, &writable, &sizes, &kinds).usable {
         return Judged::Refused(Refusal::BoardUnusable);
     }
     let at = variable.0;
-    if records.count <= at {
+    if count <= at {
         return Judged::Refused(Refusal::NoSuchVariable);
     }
-    let kind = Kind::of(records.kinds[at]);
+    let kind = Kind::of(kinds[at]);
     let wrong = wrong_kind(signed, kind);
-    let size = records.sizes[at] as usize;
+    let size = sizes[at] as usize;
     if wrong {
         return Judged::Refused(Refusal::WrongKind);
     }

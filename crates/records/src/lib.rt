@@ -14,7 +14,7 @@ ghost use lib.ListN.{length, take, getD, set};
 ghost use Rattle.bsmp.specs.Base.{some};
 ghost use Rattle.bsmp.specs.Codes.{kindOf};
 ghost use Rattle.bsmp.specs.Board.{blankCurve, blankFunction, fitsKind, usableVariable, usableCurve, usableCurves, usableFunctions, usableGroups};
-ghost use Rattle.records.specs.Lending.{recordsOf, curvesOf, functionsOf, groupsOf, tableOf, lent};
+ghost use Rattle.records.specs.Lending.{columns, recordsOf, curvesOf, functionsOf, groupsOf, tableOf, lent};
 ghost use Rattle.records.specs.Checks.{checkedOf, curveBytes, curvesCheckedOf, boardOf};
 
 // The variable records by columns; of the places from `count` on, nothing counts.
@@ -111,25 +111,30 @@ fn usable_variable(v: Variable) -> bool
     fits_kind(v.size, v.kind)
 }
 
-// The rules of the variable records, with what their sizes and types add up to, in one walk.
-pub fn usable_records(records: Records) -> Checked
-    ensures { λ r. ⌜ r ≡ checkedOf (recordsOf records) ⌝ }
+// The rules of the variable records, with what their sizes and types add up to, in one walk. The columns are lent, since a copy of them
+// for each call would be the most of what an entry needs of the stack.
+pub fn usable_records(
+    count: usize,
+    writable: &[u8; 64],
+    sizes: &[u8; 64],
+    kinds: &[u8; 64],
+) -> Checked
+    ensures { λ r. ⌜ r ≡ checkedOf (recordsOf (columns count (now (writable .entry)) (now (sizes .entry)) (now (kinds .entry)))) ⌝ }
 {
-    let n = records.count;
-    if n < 1 {
+    if count < 1 {
         return Checked::REFUSED;
     }
-    if 64 < n {
+    if 64 < count {
         return Checked::REFUSED;
     }
     let mut bytes: usize = 0;
     let mut marks: u64 = 0;
     let mut i = 0;
-    while i < n {
+    while i < count {
         let v = Variable {
-            writable: records.writable[i],
-            size: records.sizes[i],
-            kind: records.kinds[i],
+            writable: writable[i],
+            size: sizes[i],
+            kind: kinds[i],
         };
         if !usable_variable(v) {
             return Checked::REFUSED;
@@ -348,17 +353,20 @@ impl Groups {
 
 // Refusal 1 for the whole board: its records, the lengths of its stores, its groups.
 pub fn usable_board(
-    records: Records,
+    count: usize,
+    writable: &[u8; 64],
+    sizes: &[u8; 64],
+    kinds: &[u8; 64],
     curves: &[u32],
     functions: &[u8],
     groups: Groups,
     values: &[u8],
     blocks: &[u8],
 ) -> Board
-    ensures { λ r. ⌜ r ≡ boardOf (tableOf records (now (curves .entry)) (now (functions .entry)))
+    ensures { λ r. ⌜ r ≡ boardOf (tableOf (columns count (now (writable .entry)) (now (sizes .entry)) (now (kinds .entry))) (now (curves .entry)) (now (functions .entry)))
         (lent (now (values .entry)) (now (blocks .entry)) (groupsOf groups)) ⌝ }
 {
-    let records_checked = usable_records(records);
+    let records_checked = usable_records(count, writable, sizes, kinds);
     if !records_checked.usable {
         return Board::REFUSED;
     }
@@ -375,7 +383,7 @@ pub fn usable_board(
     if !usable_functions(functions) {
         return Board::REFUSED;
     }
-    if !usable_groups(groups, records.count) {
+    if !usable_groups(groups, count) {
         return Board::REFUSED;
     }
     Board {

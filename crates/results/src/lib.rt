@@ -58,7 +58,21 @@ fn judge_result(
         (stateOf records (now (curves .entry)) (now (functions .entry)) groups (now (values .entry)) (now (blocks .entry))))
         (layout (tableOf records (now (curves .entry)) (now (functions .entry)))) room function (ranOf ran (now (output .entry)))) Refuse Pass ⌝ }
 {
-    let board = records::usable_board(records, curves, functions, groups, values, blocks);
+    let count = records.count;
+    let writable = records.writable;
+    let sizes = records.sizes;
+    let kinds = records.kinds;
+    let board = records::usable_board(
+        count,
+        &writable,
+        &sizes,
+        &kinds,
+        curves,
+        functions,
+        groups,
+        values,
+        blocks,
+    );
     if !board.usable {
         return Judged::Refuse(Refusal::BoardUnusable);
     }
@@ -157,15 +171,29 @@ fn judge_store(
         (stateOf records (now (curves .entry)) (now (functions .entry)) groups (now (values .entry)) (now (blocks .entry))))
         (layout (tableOf records (now (curves .entry)) (now (functions .entry)))) variable (now (bytes .entry))) Refuse Pass ⌝ }
 {
-    let board = records::usable_board(records, curves, functions, groups, values, blocks);
+    let count = records.count;
+    let writable = records.writable;
+    let sizes = records.sizes;
+    let kinds = records.kinds;
+    let board = records::usable_board(
+        count,
+        &writable,
+        &sizes,
+        &kinds,
+        curves,
+        functions,
+        groups,
+        values,
+        blocks,
+    );
     if !board.usable {
         return Judged::Refuse(Refusal::BoardUnusable);
     }
     let i = variable.0;
-    if records.count <= i {
+    if count <= i {
         return Judged::Refuse(Refusal::NoSuchVariable);
     }
-    if bytes.len() != records.sizes[i] as usize {
+    if bytes.len() != sizes[i] as usize {
         return Judged::Refuse(Refusal::WrongByteCount);
     }
     Judged::Pass
