@@ -265,12 +265,11 @@ fn carry(
             if reply.len() < 4104 {
                 return refused(Refusal::ReplyBufferShort);
             }
-            let writable = board.writable;
             let made = groups.count;
             let sets = groups.sets;
             return receive(
                 &sizes[0..count],
-                writable,
+                board.writable,
                 curves,
                 functions,
                 &sets[0..made],
