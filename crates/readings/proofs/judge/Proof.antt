@@ -1,6 +1,5 @@
 -- `judge` meets its contract: each return is one case of `judgedOf`. Assumes nothing.
-use mir.Syntax.{w8, w64}
-use borrow.Author.Needs.{needs, elem-fits-field}
+use borrow.Author.Needs.{needs}
 use Rattle.readings.proofs.Tests.{judge-cases, place-within}
 use Rattle.readings.proofs.judge.Statement.{statement}
 use Rattle.readings.proofs.judge.Tie as tie
@@ -16,7 +15,7 @@ judge-spec =
     (λ c κs. search needs)
     (λ c κs. search needs)
     (λ c. search (place-within, needs))
-    (λ c. let a = c .before .before .before .before .before .before .before .before .before .before .before .before .args in let k = c .before .before .before .before .before .before .before .before .before .before .before .before .good .0 .1 .1 .1 .1 .0 in elem-fits-field w8 w64 (a .records .sizes) (k .0) (a .variable .0) (k .1 .1) tt)
+    (λ c. let k = c .before .before .before .before .before .before .before .before .before .before .before .before .good .0 .1 .1 .1 in search (k .0 .1 .1, k .1 .0 .1 .1, k .1 .1 .0 .1 .1, needs))
     (λ c. search (judge-cases, needs))
     (λ c. search (judge-cases, needs))
     (λ c κs. search needs)

@@ -1,6 +1,5 @@
 -- `judge_store` meets its contract. Assumes nothing.
-use mir.Syntax.{w8, w64}
-use borrow.Author.Needs.{needs, elem-fits-field}
+use borrow.Author.Needs.{needs}
 use Rattle.bsmp.proofs.Chain.{first-next, first-stop, first-end}
 use Rattle.results.proofs.Judging.{board-told}
 use Rattle.results.proofs.Storing.{variable-missing, variable-known, bytes-wrong, bytes-right, size-inside}
@@ -12,6 +11,6 @@ judge-store-spec =
     tie.close
     (tie.spec (λ c κs. search needs) (λ c. search (first-stop, board-told, needs) depth 4)
     (λ c. search (first-next, first-stop, board-told, variable-missing, needs) depth 5)
-    (λ c. search (size-inside, needs)) (λ c. let a = c .before .before .before .before .before .before .before .before .before .before .before .before .before .before .before .args in let k = c .before .before .before .before .before .before .before .before .before .before .before .before .before .before .before .good .0 .1 .1 .1 .1 .0 in elem-fits-field w8 w64 (a .records .sizes) (k .0) (a .variable .0) (k .1 .1) tt)
+    (λ c. search (size-inside, needs)) (λ c. let k = c .before .before .before .before .before .before .before .before .before .before .before .before .before .before .before .good .0 .1 .1 .1 in search (k .0 .1 .1, k .1 .0 .1 .1, k .1 .1 .0 .1 .1, needs))
     (λ c. search (first-next, first-stop, board-told, variable-known, bytes-wrong, needs) depth 6)
     (λ c. search (first-next, first-end, board-told, variable-known, bytes-right, needs) depth 7))
