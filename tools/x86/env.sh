@@ -33,8 +33,10 @@ else
     x86_bin=$x86_top/suite/target/x86_64-unknown-linux-gnu/release
 fi
 
-install_missing() { # PACKAGES
+install_missing() { # PACKAGES; where the lists of packages are old, once more with new ones
     local missing=() name
     for name in "$@"; do dpkg -s "$name" >/dev/null 2>&1 || missing+=("$name"); done
-    [ ${#missing[@]} -eq 0 ] || DEBIAN_FRONTEND=noninteractive apt-get install -y -qq --no-install-recommends "${missing[@]}" >/dev/null
+    [ ${#missing[@]} -eq 0 ] || apt_install "${missing[@]}" 2>/dev/null || { apt-get update -qq && apt_install "${missing[@]}"; }
 }
+
+apt_install() { DEBIAN_FRONTEND=noninteractive apt-get install -y -qq --no-install-recommends "$@" >/dev/null; }
