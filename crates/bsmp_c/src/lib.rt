@@ -5,7 +5,7 @@ use told::Told;
 use told::ToldSigned;
 use told::ToldUnsigned;
 ghost use mathlib.Core.Path.{_≡_};
-ghost use Rattle.entries.specs.Comes.{packetOf};
+ghost use Rattle.calls.specs.Comes.{packetOf};
 ghost use Rattle.told.specs.Told.{toldLeft, lastingTold, toldWith, toldReplied, repliedTold, numbered, keptTold, wroteTold, readingTold, signedSays, unsignedSays};
 ghost use Rattle.told.specs.Comes.{resultFrom, storeFrom, signedFrom, unsignedFrom, signedBytesFrom, unsignedBytesFrom};
 

@@ -35,8 +35,8 @@ use Rattle.results.specs.Results.{ranOf, replied, storedOf, Kept, kept}
 use Rattle.results.specs.declared.Ran.{Ran}
 use Rattle.results.specs.declared.Stored.{Stored}
 use Rattle.results.specs.declared.Stored.the-variants as Stores
-use Rattle.entries.specs.Board.{boardTable, doneWith}
-use Rattle.entries.specs.Comes.{packetOf, resultOf, storeOf}
+use Rattle.calls.specs.Board.{boardTable, doneWith}
+use Rattle.calls.specs.Comes.{packetOf, resultOf, storeOf}
 
 -- a group table says the groups that it was made of
 table-says : (gs : List ℕ) (g : Groups) → length gs ≤ 5 → groupsOf (tableWith gs g) ≡ gs

@@ -42,7 +42,7 @@ use denote.Exit.{yes}
 use Rattle.records.specs.Lending.{recordsOf}
 use Rattle.entries.specs.Taken.{takenOf}
 use Rattle.node.specs.Promise.{Lasting, left}
-use Rattle.entries.specs.Board.{doneWith}
+use Rattle.calls.specs.Board.{doneWith}
 use Rattle.node.specs.declared.Done.{Done}
 use Rattle.records.specs.declared.Records.{Records}
 use Rattle.bsmp.specs.declared.Variable.{Variable}

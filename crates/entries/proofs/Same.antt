@@ -26,8 +26,8 @@ use Rattle.results.specs.declared.Ran.{Ran}
 use Rattle.results.specs.declared.Stored.the-variants as S
 use Rattle.readings.specs.Answers.{Wrote, writes}
 use Rattle.entries.specs.Taken.{takenOf}
-use Rattle.entries.specs.Board.{boardTable}
-use Rattle.entries.specs.Comes.{packetOf, resultOf, storeOf, signedOf, unsignedOf, signedBytesOf, unsignedBytesOf}
+use Rattle.calls.specs.Board.{boardTable}
+use Rattle.calls.specs.Comes.{packetOf, resultOf, storeOf, signedOf, unsignedOf, signedBytesOf, unsignedBytesOf}
 use Rattle.entries.proofs.Taken.{taken-same}
 
 broken : (b : Bool) → (b ≡ true → ⊥) → not b ≡ true

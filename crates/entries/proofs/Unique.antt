@@ -29,8 +29,8 @@ use Rattle.readings.specs.declared.SignedReading.{SignedReading}
 use Rattle.readings.specs.declared.UnsignedReading.{UnsignedReading}
 use Rattle.readings.specs.declared.Writing.{Writing}
 use Rattle.readings.proofs.Unique as N
-use Rattle.entries.specs.Board.{boardTable, doneWith}
-use Rattle.entries.specs.Comes.{packetOf, resultOf, storeOf}
+use Rattle.calls.specs.Board.{boardTable, doneWith}
+use Rattle.calls.specs.Comes.{packetOf, resultOf, storeOf}
 
 pub packet-unique : (x : Lasting) (o o′ : Outcome) (g g′ : Groups) (r r′ vs vs′ bs bs′ : List ℕ)
     → left (doneWith o g) r vs bs ≡ x → left (doneWith o′ g′) r′ vs′ bs′ ≡ x → (o ≡ o′) × (g ≡ g′) × (r ≡ r′) × (vs ≡ vs′) × (bs ≡ bs′)

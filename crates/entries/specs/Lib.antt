@@ -1,3 +1,1 @@
 pub mod Taken
-pub mod Board
-pub mod Comes

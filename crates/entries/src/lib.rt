@@ -16,8 +16,8 @@ ghost use Rattle.node.specs.Promise.{left};
 ghost use Rattle.results.specs.Results.{replied, kept};
 ghost use Rattle.readings.specs.Answers.{signedReadingOf, unsignedReadingOf, wrote};
 ghost use Rattle.entries.specs.Taken.{takenOf};
-ghost use Rattle.entries.specs.Board.{doneWith};
-ghost use Rattle.entries.specs.Comes.{packetOf, resultOf, storeOf, signedOf, unsignedOf, signedBytesOf, unsignedBytesOf};
+ghost use Rattle.calls.specs.Board.{doneWith};
+ghost use Rattle.calls.specs.Comes.{packetOf, resultOf, storeOf, signedOf, unsignedOf, signedBytesOf, unsignedBytesOf};
 
 // How many of so many records have a place in the columns.
 fn stored(count: usize) -> usize

@@ -19,7 +19,7 @@ use Rattle.readings.specs.Answers.{signedReadingOf, Wrote, wrote}
 use Rattle.readings.specs.declared.SignedReading.{SignedReading}
 use Rattle.readings.specs.declared.SignedReading.the-variants.{Is}
 use Rattle.readings.specs.declared.Writing.{Writing}
-use Rattle.entries.specs.Comes.{resultOf, signedBytesOf}
+use Rattle.calls.specs.Comes.{resultOf, signedBytesOf}
 use Rattle.told.specs.Told.{toldOf, toldLeft, lastingTold, toldWith, toldReplied, repliedTold, numbered, storedNumber, keptTold, writingNumber, wroteTold, Numbers, numbers, readingTold}
 use Rattle.told.specs.declared.Told.{Told}
 

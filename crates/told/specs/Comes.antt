@@ -9,7 +9,7 @@ use Rattle.bsmp.specs.declared.Variable.{Variable}
 use Rattle.records.specs.declared.Groups.{Groups}
 use Rattle.results.specs.Results.{Replied, Kept}
 use Rattle.readings.specs.Answers.{Wrote}
-use Rattle.entries.specs.Comes.{resultOf, storeOf, signedOf, unsignedOf, signedBytesOf, unsignedBytesOf}
+use Rattle.calls.specs.Comes.{resultOf, storeOf, signedOf, unsignedOf, signedBytesOf, unsignedBytesOf}
 use Rattle.told.specs.Told.{ranFrom}
 
 abbrev pub resultFrom : List Variable → (curves functions : List ℕ) → Groups → (values blocks : List ℕ) → ℕ → (due failed : Bool) → (error : ℕ) → (output reply : List ℕ) → Replied

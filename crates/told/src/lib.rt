@@ -12,7 +12,7 @@ use results::Stored;
 ghost use mathlib.Core.Path.{_≡_};
 ghost use Rattle.records.specs.Lending.{recordsOf};
 ghost use Rattle.readings.specs.Answers.{signedReadingOf, unsignedReadingOf};
-ghost use Rattle.entries.specs.Comes.{packetOf};
+ghost use Rattle.calls.specs.Comes.{packetOf};
 ghost use Rattle.told.specs.Told.{toldOf, toldLeft, lastingTold, toldWith, toldReplied, repliedTold, ranFrom};
 ghost use Rattle.told.specs.Told.{numbered, storedNumber, keptTold, writingNumber, wroteTold, readingTold, signedSays, unsignedSays};
 ghost use Rattle.told.specs.Comes.{resultFrom, storeFrom, signedFrom, unsignedFrom, signedBytesFrom, unsignedBytesFrom};

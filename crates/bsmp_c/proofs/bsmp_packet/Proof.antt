@@ -2,7 +2,7 @@
 use contract.Running.{givenOf, tables, tablesOf}
 use denote.Triple.Spec.{tripleOf}
 use denote.Triple.Table.{entered, cited}
-use Rattle.entries.specs.Comes.{packetOf}
+use Rattle.calls.specs.Comes.{packetOf}
 use Rattle.entries.proofs.Same.{packet-same}
 use Rattle.bsmp_c.proofs.PacketWalk as thin
 use Rattle.entries.proofs.records_of.Symbol as table-def

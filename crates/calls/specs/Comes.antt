@@ -16,7 +16,7 @@ use Rattle.node.specs.Promise.{lentState, Lasting, lasting}
 use Rattle.results.specs.Results.{ranOf, Replied, repliedOf, Kept, keptOf}
 use Rattle.results.specs.declared.Ran.{Ran}
 use Rattle.readings.specs.Answers.{Wrote, writes}
-use Rattle.entries.specs.Board.{boardTable}
+use Rattle.calls.specs.Board.{boardTable}
 
 abbrev pub packetOf : List Variable → (curves functions : List ℕ) → Groups → (own multicast busy : ℕ) → (values blocks request reply : List ℕ) → Lasting
 packetOf vs cs fs g own multicast busy values blocks request reply =
