@@ -1127,7 +1127,7 @@ impl Sequence {
 #[test]
 fn absurd_tables_end_in_an_outcome() {
     let mut sequence = Sequence(0x2545_F491_4F6C_DD1D);
-    for _ in 0..5_000 {
+    for _ in 0..20_000 {
         let mut bench = Bench::a();
         for _ in 0..sequence.below(3) {
             match sequence.below(6) {
@@ -1155,7 +1155,7 @@ fn any_packet_keeps_the_board_usable_and_an_error_changes_no_byte() {
     let mut sequence = Sequence(0x9E37_79B9_7F4A_7C15);
     let records = [variable(1, 1, 0), variable(0, 2, 1), variable(1, 2, 4)];
     let mut bench = Bench::with(&records, &[1, 2, 3, 0, 1, 2], &[0, 0, 1, 1]);
-    for _ in 0..15_000 {
+    for _ in 0..50_000 {
         let before = bench.state();
         bench.busy = sequence.below(8) & sequence.below(8);
         let commands = [
