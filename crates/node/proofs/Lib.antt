@@ -1,4 +1,3 @@
-pub mod Ending
 pub mod Tables
 pub mod Work
 pub mod Unique

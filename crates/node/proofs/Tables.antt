@@ -1,29 +1,24 @@
 -- The group table after a call, and what a usable board's lent parts are. Assumes nothing.
-use mathlib.Core.Path.{_≡_, refl, sym, ap, ap₂, _∙_}
-use mathlib.Core.Bool.{true}
+use mathlib.Core.Path.{_≡_, sym, ap, ap₂, _∙_}
 use mathlib.Core.List.{List, [], _∷_, _++_, append-assoc}
 use Prim.Native.Nat.{ℕ, _+_, _-_, _≤_, _<_}
 use native.Mathlib.Omega.{arith}
 use native.Mathlib.Decide.{decLt}
 use lib.ListN.{length, take, drop, getD, set, length-append, length-take, length-drop, length-set, List·getD-append}
 use lib.Seq.{take-all, getD-take, getD-drop, getD-append-add, ext-getD}
-use Rattle.bsmp.specs.Base.{sum, join, cut}
-use Rattle.bsmp.specs.Board.{Table, Layout, layout, State, sizesOf, writableOf, usable}
-use Rattle.bsmp.specs.Packet.{Result}
+use Rattle.bsmp.specs.Base.{sum}
+use Rattle.bsmp.specs.Board.{Table, layout, sizesOf, usable}
 use Rattle.lists.specs.Put.{put}
 use Rattle.lists.proofs.Put.{set-put}
-use Rattle.sets.specs.Promises.{Sound}
-use Rattle.records.specs.Lending.{recordsOf, curvesOf, functionsOf, groupsOf, tableOf, lent}
+use Rattle.records.specs.Lending.{recordsOf, groupsOf, tableOf, lent}
 use Rattle.records.specs.declared.Records.{Records}
 use Rattle.records.specs.declared.Groups.{Groups}
 use Rattle.records.proofs.Lending.{record-count, sizes-lent, group-count, group-at, groups-lent}
 use Rattle.records.proofs.Whole.{layout-lent}
 use Rattle.records.proofs.Sound as R
 use Rattle.variables.proofs.Listing.{sizes-usable}
-use Rattle.serve.specs.Serve.{lentLayout, heldBy, Standing, regrouped}
-use Rattle.serve.specs.declared.Regroup.{Regroup}
-use Rattle.serve.specs.declared.Regroup.the-variants.{Keep, Make, Remove}
-use Rattle.node.specs.Promise.{lentState, tableWith, Leaves, Fits, Ready}
+use Rattle.judging.specs.Standing.{lentLayout, Standing}
+use Rattle.node.specs.Promise.{lentState, tableWith, Ready}
 
 -- the table of the groups that it holds is the table, whatever its count
 module _ (g : Groups) (five : length (g .sets) ≡ 5) where

@@ -7,7 +7,6 @@ use Rattle.bsmp.specs.Board.{Table, layout, State, blockSizes}
 use Rattle.bsmp.specs.Packet.{Place, Ending, Result, packet}
 use Rattle.bsmp.specs.Apart.{arrives}
 use Rattle.bsmp.specs.declared.Refusal.{Refusal}
-use Rattle.bsmp.specs.declared.Outcome.{Outcome}
 use Rattle.bsmp.specs.declared.Outcome.the-variants as O
 use Rattle.bsmp.proofs.Keeps.{refusal-keeps, outcome-refused}
 use Rattle.bsmp.proofs.Store.{join-cut}

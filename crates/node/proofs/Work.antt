@@ -5,13 +5,12 @@ use mathlib.Core.List.{List, [], _∷_, _++_}
 use Prim.Native.Nat.{ℕ, _+_, _-_, _≤_, _<_}
 use native.Mathlib.Omega.{arith}
 use borrow.Rule.Slice.PartMut.{midOf}
-use lib.Dec.{ltb}
 use lib.ListN.{length, take, length-append}
 use borrow.Author.Tests.{le-ltb, lt-ltb}
-use Rattle.bsmp.specs.Base.{join}
+use Rattle.bsmp.specs.Base.{join, first}
 use Rattle.bsmp.specs.Board.{Table, Layout, layout, State, blockSizes, usable}
 use Rattle.bsmp.specs.Message.{handled}
-use Rattle.bsmp.specs.Packet.{Place, Result, refuse, usablePlace, boardTests, answered, packet}
+use Rattle.bsmp.specs.Packet.{Place, Result, refuse, usablePlace, packetTests, isOwn, destination, message, answered, packet}
 use Rattle.bsmp.specs.declared.Refusal.{Refusal}
 use Rattle.bsmp.specs.declared.Refusal.the-variants.{BoardUnusable, BadAddress, ReplyBufferShort}
 use Rattle.bsmp.specs.declared.Outcome.{Outcome}
@@ -20,7 +19,7 @@ use Rattle.bsmp.proofs.Chain.{first-next, first-stop, first-end}
 use Rattle.bsmp.specs.Apart.{arrives}
 use Rattle.bsmp.proofs.Stays.{kept, stays}
 use Rattle.bsmp.proofs.Store.{join-cut}
-use Rattle.parts.proofs.Told.{not-on, not-off}
+use Rattle.parts.proofs.Told.{not-on}
 use Rattle.records.specs.Lending.{groupsOf, tableOf, lent}
 use Rattle.records.specs.Checks.{boardOf}
 use Rattle.records.specs.declared.Records.{Records}
@@ -33,11 +32,12 @@ use Rattle.wire.specs.Opening.{placed, openedOf}
 use Rattle.wire.specs.declared.Opened.{Opened}
 use Rattle.wire.specs.declared.Opened.the-variants.{Message, Refused}
 use Rattle.wire.proofs.Opening.{refused-first, message-first, message-due, message-lent}
-use Rattle.serve.specs.Serve.{lentLayout, heldBy, Standing, regrouped}
-use Rattle.serve.specs.declared.Regroup.{Regroup}
-use Rattle.serve.specs.declared.Regroup.the-variants.{Keep, Make}
-use Rattle.node.specs.Promise.{lentState, tableWith, lasting, left, unopenedOf, receivedOf, Leaves, Fits, Ready}
-use Rattle.node.specs.declared.Handled.{Handled}
+use Rattle.judging.specs.Standing.{lentLayout, heldBy, Standing}
+use Rattle.effects.specs.Effects.{regrouped}
+use Rattle.effects.specs.declared.Regroup.the-variants.{Keep, Make}
+use Rattle.serve.specs.Serve.{Leaves}
+use Rattle.node.specs.Promise.{lentState, tableWith, lasting, left, unopenedOf, receivedOf, Fits, Ready}
+use Rattle.serve.specs.declared.Handled.{Handled}
 use Rattle.node.proofs.Tables.{few-groups, layout-is, standing}
 
 -- the front of an array, as it is lent
@@ -68,30 +68,56 @@ module _ (r : Records) (cs fs : List ℕ) (g : Groups) (vs bs : List ℕ) (w : �
   made-same : made ≡ groupsOf g
   made-same = front (g .count) (g .sets) ∙ sym (groups-lent g (omega (arith, few-groups r cs fs g vs bs w h)))
 
-  pub lent-leaves : (a : Place) (busy : ℕ) (p b b′ vs′ bs′ : List ℕ) (x : Handled) → Leaves (receivedOf L a busy p (heldBy L vs bs made)) L made b x b′ vs′ bs′
-      → Leaves (receivedOf (layout T) a busy p (lentState T vs bs g)) (layout T) (groupsOf g) b x b′ vs′ bs′
+  pub lent-leaves : (a : Place) (busy : ℕ) (p b b′ vs′ bs′ : List ℕ) (x : Handled)
+      → Leaves (receivedOf L a busy (length b) p (heldBy L vs bs made)) L made b x b′ vs′ bs′
+      → Leaves (receivedOf (layout T) a busy (length b) p (lentState T vs bs g)) (layout T) (groupsOf g) b x b′ vs′ bs′
   lent-leaves a busy p b b′ vs′ bs′ x k =
-      subst (λ gs. Leaves (receivedOf (layout T) a busy p (heldBy (layout T) vs bs gs)) (layout T) gs b x b′ vs′ bs′) made-same
-      (subst (λ l. Leaves (receivedOf l a busy p (heldBy l vs bs made)) l made b x b′ vs′ bs′) layout-same k)
+      subst (λ gs. Leaves (receivedOf (layout T) a busy (length b) p (heldBy (layout T) vs bs gs)) (layout T) gs b x b′ vs′ bs′) made-same
+      (subst (λ l. Leaves (receivedOf l a busy (length b) p (heldBy l vs bs made)) l made b x b′ vs′ bs′) layout-same k)
+
+-- a refusal changes nothing of what is lent
+module _ (l : Layout) (gs vs bs b : List ℕ) (z : Result) where
+  stopped : (n : Refusal) (x : Handled) → refuse (heldBy l vs bs gs) n ≡ z → (x .outcome ≡ O.Refused n) × (x .regroup ≡ Keep) → Leaves z l gs b x b vs bs
+  stopped n x q f =
+      subst (λ y. Leaves y l gs b x b vs bs) q
+      (record { outcome = f .0; reply = refl; holds = ap (λ y. heldBy l vs bs (regrouped y gs)) (f .1) })
 
 -- a packet on a usable board ----------------------------------------------------------------------------------------------------
-module _ (l : Layout) (gs vs bs b : List ℕ) (own mc busy : ℕ) (p : List ℕ) (o : Opened) (e : o ≡ openedOf (placed own mc) p) where
+module _ (l : Layout) (gs vs bs b : List ℕ) (own mc busy : ℕ) (p : List ℕ) (a : Bool) (pl : a ≡ usablePlace (placed own mc)) where
   abbrev S : State
   S = heldBy l vs bs gs
 
   abbrev Received : Result
-  Received = receivedOf l (placed own mc) busy p S
+  Received = receivedOf l (placed own mc) busy (length b) p S
 
-  pub receive-refused : (y : Outcome) (x : Refusal) → o ≡ Refused x → y ≡ unopenedOf o → Leaves Received l gs b (record { outcome = y; regroup = Keep }) b vs bs
-  receive-refused y x q f =
-      subst (λ z. Leaves z l gs b (record { outcome = y; regroup = Keep }) b vs bs) (refused-first own mc p (refuse S) _ (refuse S x) o x e q refl)
-      (record { outcome = f ∙ ap unopenedOf q; reply = refl; holds = refl })
+  pub receive-place : (x : Handled) → not a ≡ true → (x .outcome ≡ O.Refused BadAddress) × (x .regroup ≡ Keep) → Leaves Received l gs b x b vs bs
+  receive-place x v f =
+      stopped l gs vs bs b Received BadAddress x (first-next _ _ _ _ _ _ _ refl (first-stop _ _ _ _ _ _ _ (ap not (sym pl) ∙ v) refl)) f
 
-  pub receive-handled : (due : Bool) (x : Handled) (b′ vs′ bs′ : List ℕ) → o ≡ Message due
-      → Leaves (answered due (handled l busy (midOf 1 (length p - 1 - 1) p) S)) l gs b x b′ vs′ bs′ → Leaves Received l gs b x b′ vs′ bs′
-  receive-handled due x b′ vs′ bs′ q k =
-      subst (λ z. Leaves z l gs b x b′ vs′ bs′)
-      (message-first own mc p (refuse S) _ _ o due e q (ap₂ (λ y m. answered y (handled l busy m S)) (message-due own mc p o due e q) (message-lent p))) k
+  module _ (v : not a ≡ false) where
+    pub receive-short : (x : Handled) → length b < 4104 → (x .outcome ≡ O.Refused ReplyBufferShort) × (x .regroup ≡ Keep) → Leaves Received l gs b x b vs bs
+    receive-short x n f =
+        stopped l gs vs bs b Received ReplyBufferShort x
+        (first-next _ _ _ _ _ _ _ refl (first-next _ _ _ _ _ _ _ (ap not (sym pl) ∙ v) (first-stop _ _ _ _ _ _ _ (lt-ltb _ _ n) refl))) f
+
+    module _ (n : 4104 ≤ length b) (o : Opened) (e : o ≡ openedOf (placed own mc) p) where
+      -- the packet's own tests are left
+      opening : (x : Result) → x ≡ first (packetTests (placed own mc) p) (refuse S) (answered (isOwn (placed own mc) (destination p)) (handled l busy (message p) S))
+          → x ≡ Received
+      opening x q =
+          first-next _ _ _ _ _ _ _ refl (first-next _ _ _ _ _ _ _ (ap not (sym pl) ∙ v) (first-next _ _ _ _ _ _ _ (le-ltb _ _ n) (first-end _ _ _ q)))
+
+      pub receive-refused : (y : Outcome) (x : Refusal) → o ≡ Refused x → y ≡ unopenedOf o → Leaves Received l gs b (record { outcome = y; regroup = Keep }) b vs bs
+      receive-refused y x q f =
+          stopped l gs vs bs b Received x (record { outcome = y; regroup = Keep })
+          (opening _ (refused-first own mc p (refuse S) _ (refuse S x) o x e q refl)) (f ∙ ap unopenedOf q, refl)
+
+      pub receive-handled : (due : Bool) (x : Handled) (b′ vs′ bs′ : List ℕ) → o ≡ Message due
+          → Leaves (answered due (handled l busy (midOf 1 (length p - 1 - 1) p) S)) l gs b x b′ vs′ bs′ → Leaves Received l gs b x b′ vs′ bs′
+      receive-handled due x b′ vs′ bs′ q k =
+          subst (λ z. Leaves z l gs b x b′ vs′ bs′)
+          (opening _
+          (message-first own mc p (refuse S) _ _ o due e q (ap₂ (λ y m. answered y (handled l busy m S)) (message-due own mc p o due e q) (message-lent p)))) k
 
 pub board-ready : (r : Records) (cs fs : List ℕ) (g : Groups) (vs bs : List ℕ) (c : Board) → c ≡ boardOf (tableOf r cs fs) (lent vs bs (groupsOf g))
     → c .usable ≡ true → Ready (tableOf r cs fs) (lentState (tableOf r cs fs) vs bs g) (c .writable)
@@ -110,41 +136,17 @@ module _ (r : Records) (cs fs : List ℕ) (g : Groups) (vs bs b : List ℕ) (own
   abbrev Promised : Result
   Promised = packet Q (placed own mc) busy (length b) p State₀
 
-  -- refusals 1 to 3, and the rest
-  stopped : (n : Refusal) (x : Handled) → refuse State₀ n ≡ Promised → (x .outcome ≡ O.Refused n) × (x .regroup ≡ Keep)
-      → Leaves Promised (layout Q) (groupsOf g) b x b vs bs
-  stopped n x q f =
-      subst (λ z. Leaves z (layout Q) (groupsOf g) b x b vs bs) q
-      (record { outcome = f .0; reply = refl; holds = ap (λ y. heldBy (layout Q) vs bs (regrouped y (groupsOf g))) (f .1) })
-
   pub packet-unusable : (x : Handled) → c .usable ≡ false → (x .outcome ≡ O.Refused BoardUnusable) × (x .regroup ≡ Keep)
       → Leaves Promised (layout Q) (groupsOf g) b x b vs bs
   unfolding packet
-  packet-unusable x u f = stopped BoardUnusable x (first-stop _ _ _ _ _ _ _ (not-on _ (sym (board-usable Q _ c e) ∙ u)) refl) f
+  packet-unusable x u f =
+      stopped (layout Q) (groupsOf g) vs bs b Promised BoardUnusable x (first-stop _ _ _ _ _ _ _ (not-on _ (sym (board-usable Q _ c e) ∙ u)) refl) f
 
-  module _ (u : c .usable ≡ true) (a : Bool) (pl : a ≡ usablePlace (placed own mc)) where
-    usable-off : not (usable Q State₀) ≡ false
-    usable-off = not-off _ (sym (board-usable Q _ c e) ∙ u)
-
-    pub packet-place : (x : Handled) → a ≡ false → (x .outcome ≡ O.Refused BadAddress) × (x .regroup ≡ Keep)
-        → Leaves Promised (layout Q) (groupsOf g) b x b vs bs
-    unfolding packet
-    packet-place x v f = stopped BadAddress x (first-next _ _ _ _ _ _ _ usable-off (first-stop _ _ _ _ _ _ _ (not-on _ (sym pl ∙ v)) refl)) f
-
-    pub packet-short : (x : Handled) → a ≡ true → length b < 4104 → (x .outcome ≡ O.Refused ReplyBufferShort) × (x .regroup ≡ Keep)
-        → Leaves Promised (layout Q) (groupsOf g) b x b vs bs
-    unfolding packet
-    packet-short x v n f =
-        stopped ReplyBufferShort x
-        (first-next _ _ _ _ _ _ _ usable-off (first-next _ _ _ _ _ _ _ (not-off _ (sym pl ∙ v)) (first-stop _ _ _ _ _ _ _ (lt-ltb _ _ n) refl))) f
-
-    pub packet-received : (x : Handled) (b′ vs′ bs′ : List ℕ) → a ≡ true → 4104 ≤ length b
-        → Leaves (receivedOf (layout Q) (placed own mc) busy p State₀) (layout Q) (groupsOf g) b x b′ vs′ bs′
-        → Leaves Promised (layout Q) (groupsOf g) b x b′ vs′ bs′
-    unfolding packet
-    packet-received x b′ vs′ bs′ v n k =
-        subst (λ z. Leaves z (layout Q) (groupsOf g) b x b′ vs′ bs′)
-        (first-next _ _ _ _ _ _ _ usable-off (first-next _ _ _ _ _ _ _ (not-off _ (sym pl ∙ v)) (first-next _ _ _ _ _ _ _ (le-ltb _ _ n) (first-end _ _ _ refl)))) k
+  pub packet-received : (x : Handled) (b′ vs′ bs′ : List ℕ) → c .usable ≡ true
+      → Leaves (receivedOf (layout Q) (placed own mc) busy (length b) p State₀) (layout Q) (groupsOf g) b x b′ vs′ bs′
+      → Leaves Promised (layout Q) (groupsOf g) b x b′ vs′ bs′
+  unfolding packet
+  packet-received x b′ vs′ bs′ u k = rw (sym (board-usable Q _ c e) ∙ u) k
 
 -- .. and the group table that it leaves -----------------------------------------------------------------------------------------
 module _ (t : Table) (a : Place) (busy : ℕ) (p : List ℕ) (g : Groups) (vs bs b : List ℕ) (x : Handled) (b′ vs′ bs′ : List ℕ)

@@ -1,4 +1,2 @@
-pub mod Said
-pub mod Effects
-pub mod Answers
-pub mod Judging
+pub mod Serving
+pub mod Ending

@@ -1,73 +1,49 @@
--- What the contracts of a message's work say: the board that stands, the layout of what is lent, and what was said. Assumes nothing.
+-- What the work of a message leaves, against what the definition gives. Assumes nothing.
 use mathlib.Core.Path.{_≡_}
-use mathlib.Core.Bool.{Bool, true}
-use mathlib.Core.List.{List, [], _∷_, _++_}
-use Prim.Native.Nat.{ℕ, _≤_}
-use lib.ListN.{length}
-use Rattle.bsmp.specs.Base.{every, cut}
-use Rattle.bsmp.specs.Board.{Layout, State, blockSizes, usableSize, usableFunctions}
-use Rattle.bsmp.specs.Message.{Change, asked, judge, after, Said, replies, runs, stateAfter}
-use Rattle.bsmp.specs.Store.{held}
+use mathlib.Core.Bool.{Bool, false}
+use mathlib.Core.List.{List}
+use Prim.Native.Nat.{ℕ, _≤_, _<_}
+use lib.ListN.{length, drop}
+use Rattle.bsmp.specs.Base.{byteAt}
+use Rattle.bsmp.specs.Board.{Layout, State}
+use Rattle.bsmp.specs.Codes.{commandOf}
+use Rattle.bsmp.specs.Message.{Said, line, asked, judge, said, spoken, stateAfter}
+use Rattle.bsmp.specs.Packet.{Result, ends}
+use Rattle.bsmp.specs.Store.{outcomeOf, shown}
+use Rattle.bsmp.specs.declared.Command.{Command}
+use Rattle.bsmp.specs.declared.Command.the-variants.{RunFunction}
 use Rattle.bsmp.specs.declared.Check.{Check}
-use Rattle.lists.specs.Put.{put}
-use Rattle.sets.specs.Promises.{Sound}
-use Rattle.parts.specs.Parts.{layoutOf}
-use Rattle.records.specs.Lending.{curvesOf, functionsOf, lent}
-use Rattle.curves.specs.Fits.{SoundCurves}
-use Rattle.serve.specs.declared.Regroup.{Regroup}
-use Rattle.serve.specs.declared.Regroup.the-variants.{Keep, Make, Remove}
-use Rattle.serve.specs.declared.Spoken.{Spoken}
-use Rattle.serve.specs.declared.Spoken.the-variants.{Reply, Run}
+use Rattle.bsmp.specs.declared.Check.the-variants.{Pass}
+use Rattle.bsmp.specs.declared.Outcome.{Outcome}
+use Rattle.judging.specs.Standing.{heldBy, Judged}
+use Rattle.effects.specs.Effects.{regrouped}
 use Rattle.serve.specs.declared.Performed.{Performed}
-
--- the layout of what is lent: sizes, writable marks, and the flat numbers of curves and functions
-abbrev pub lentLayout : (sizes : List ℕ) → (writable : ℕ) → (curves functions : List ℕ) → Layout
-lentLayout ns w cs fs = layoutOf ns w (curvesOf cs) (functionsOf fs)
-
--- what the board then holds
-abbrev pub heldBy : Layout → (values store groups : List ℕ) → State
-heldBy l values store gs = held l (lent values store gs)
-
--- a usable board, as far as the work of a message leans on it
-pub record Standing (ns cs fs gs values store : List ℕ) : Type 0 where
-  pub variables : Sound ns values
-  pub sizes : every usableSize ns ≡ true
-  pub curves : SoundCurves (curvesOf cs) store
-  pub functions : usableFunctions (functionsOf fs) ≡ true
-  pub groups : length gs ≤ 5
-
--- the made groups after a message
-abbrev pub regrouped : Regroup → List ℕ → List ℕ
-regrouped Keep gs = gs
-regrouped (Make m) gs = gs ++ m ∷ []
-regrouped Remove gs = []
-
--- both stores and the made groups after a change, against the definition
-pub record Stored (l : Layout) (ch : Change) (gs vs bs : List ℕ) (r : Regroup) (vs′ bs′ : List ℕ) : Type 0 where
-  pub values : cut (l .sizes) vs′ ≡ after ch (heldBy l vs bs gs) .values
-  pub blocks : cut (blockSizes (l .curves)) bs′ ≡ after ch (heldBy l vs bs gs) .blocks
-  pub groups : regrouped r gs ≡ after ch (heldBy l vs bs gs) .groups
-
--- how the code says what was said: a reply's payload stands in the buffer
-abbrev pub spokenOf : Said → Spoken
-spokenOf (replies c p) = Reply c (length p)
-spokenOf (runs f i) = Run f (length i)
-
-abbrev pub payloadOf : Said → List ℕ
-payloadOf (replies c p) = p
-payloadOf (runs f i) = []
-
-pub record Spoke (x : Said) (r : List ℕ) (at : ℕ) (s : Spoken) (r′ : List ℕ) : Type 0 where
-  pub said : s ≡ spokenOf x
-  pub written : r′ ≡ put r at (payloadOf x)
-  pub short : length (payloadOf x) ≤ 4099
-
--- the judgement of m under some busy marks
-pub record Judged (l : Layout) (gs m : List ℕ) (v : Check) : Type 0 where
-  pub marks : ℕ
-  pub judged : v ≡ judge l gs marks m
+use Rattle.serve.specs.declared.Handled.{Handled}
 
 -- a message judged and carried out, against the definition
 pub record PerformedAs (l : Layout) (gs : List ℕ) (busy : ℕ) (m values store : List ℕ) (r : Performed) (values′ store′ : List ℕ) : Type 0 where
   pub check : r .check ≡ judge l gs busy m
   pub holds : heldBy l values′ store′ (regrouped (r .regroup) gs) ≡ stateAfter (asked l gs m) (judge l gs busy m) (heldBy l values store gs)
+
+-- what is said, as it ends where an answer is due or not
+pub record Ended (due : Bool) (x : Said) (r : List ℕ) (o : Outcome) (r′ : List ℕ) : Type 0 where
+  pub outcome : o ≡ outcomeOf (ends due x)
+  pub reply : r′ ≡ shown (ends due x) r
+
+-- a command, and a message, as they end where no answer is due, on any board
+pub record Quiet (k : Command) (m : List ℕ) (o : Outcome) : Type 0 where
+  pub is : (l : Layout) (gs : List ℕ) (s : State) → o ≡ outcomeOf (ends false (spoken (line l gs (drop 3 m) k .answer) s))
+
+pub record Unanswered (v : Check) (m : List ℕ) (o : Outcome) : Type 0 where
+  pub is : (l : Layout) (gs : List ℕ) (s : State) → Judged l gs m v → o ≡ outcomeOf (ends false (said (asked l gs m) v s))
+
+-- a message that passed has a command, and one that asks for a run a function number
+pub record Heard (v : Check) (m : List ℕ) : Type 0 where
+  pub long : v ≡ Pass → 3 ≤ length m
+  pub names : v ≡ Pass → commandOf (byteAt m 0) ≡ RunFunction → 3 < length m
+
+-- what the work of a message leaves, against what the definition gives
+pub record Leaves (x : Result) (l : Layout) (gs r : List ℕ) (h : Handled) (r′ vs bs : List ℕ) : Type 0 where
+  pub outcome : h .outcome ≡ outcomeOf (x .ending)
+  pub reply : r′ ≡ shown (x .ending) r
+  pub holds : heldBy l vs bs (regrouped (h .regroup) gs) ≡ x .state

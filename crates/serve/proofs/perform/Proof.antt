@@ -1,6 +1,7 @@
 -- `perform` meets its contract. Assumes nothing.
 use borrow.Author.Needs.{needs}
-use Rattle.serve.proofs.Judging.{message-some, message-long, message-passed, performed-pass, performed-fail}
+use Rattle.judging.proofs.Judging.{message-some, message-long, message-passed}
+use Rattle.serve.proofs.Serving.{performed-pass, performed-fail}
 use Rattle.serve.proofs.perform.Statement.{statement}
 use Rattle.serve.proofs.perform.Tie as tie
 

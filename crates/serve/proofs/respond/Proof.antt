@@ -1,6 +1,7 @@
 -- `respond` meets its contract. Assumes nothing.
 use borrow.Author.Needs.{needs}
-use Rattle.serve.proofs.Judging.{judged-some, judged-long, judged-passed, respond-pass, respond-fail}
+use Rattle.judging.proofs.Judging.{judged-some, judged-long, judged-passed}
+use Rattle.serve.proofs.Serving.{respond-pass, respond-fail}
 use Rattle.serve.proofs.respond.Statement.{statement}
 use Rattle.serve.proofs.respond.Tie as tie
 
