@@ -1,5 +1,6 @@
 # How programs for x86-64, which is what the library is built for, are built and run on this machine. To be sourced:
 #   need_packages        installs the Debian packages that are missing
+#   install_missing PACKAGES;   with_lists COMMAND   for packages that one script alone needs
 #   x86_cc ARGS          the C compiler;   x86_run PROGRAM ARGS   runs what it made
 #   x86_cargo ARGS       cargo, offline, for x86-64; its programs run through x86_run
 # On x86-64 itself these are gcc, the program and cargo. Elsewhere they are Debian's cross compilers, and the toolchain's emulator and C library.
@@ -33,10 +34,14 @@ else
     x86_bin=$x86_top/suite/target/x86_64-unknown-linux-gnu/release
 fi
 
-install_missing() { # PACKAGES; where the lists of packages are old, once more with new ones
+install_missing() { # PACKAGES
     local missing=() name
     for name in "$@"; do dpkg -s "$name" >/dev/null 2>&1 || missing+=("$name"); done
-    [ ${#missing[@]} -eq 0 ] || apt_install "${missing[@]}" 2>/dev/null || { apt-get update -qq && apt_install "${missing[@]}"; }
+    [ ${#missing[@]} -eq 0 ] || with_lists apt_install "${missing[@]}"
+}
+
+with_lists() { # COMMAND; where the lists of packages are old, once more with new ones
+    "$@" 2>/dev/null || { apt-get update -qq && "$@"; }
 }
 
 apt_install() { DEBIAN_FRONTEND=noninteractive apt-get install -y -qq --no-install-recommends "$@" >/dev/null; }
