@@ -3,3 +3,4 @@ pub mod Ids
 pub mod Members
 pub mod Walk
 pub mod Group
+pub mod Whole

@@ -128,6 +128,12 @@ pub fn read_members(sizes: &[u8], set: u64, store: &[u8], reply: &mut [u8], at: 
     ensures { λ r. ⌜ Placed (told (cut (now (sizes .entry)) (now (store .entry))) (membersOf set (now (sizes .entry)))) 4096
         (now (reply .entry)) at r (now (reply .exit)) ⌝ }
 {
+    // all variables, as of group 0: their values are the store as it stands
+    if set == !0 {
+        let all = store.len();
+        lists::read_value(store, 0, all, reply, at);
+        return all;
+    }
     let mut off: usize = 0;
     let mut to = at;
     let mut i = 0;
@@ -178,6 +184,11 @@ pub fn change_members(
         (cut (map (sizeAt (now (sizes .entry))) (membersOf set (now (sizes .entry)))) (drop front (now (payload .entry))))
         (cut (now (sizes .entry)) (now (store .entry))) ⌝ }
 {
+    if set == !0 {
+        let all = store.len();
+        lists::change_value(store, 0, all, op, payload, front);
+        return;
+    }
     let mut off: usize = 0;
     let mut from = front;
     let mut i = 0;

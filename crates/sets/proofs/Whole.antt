@@ -1,0 +1,155 @@
+-- The set of all variables: their values one after another are the store, and their change is one of the store as a whole. Assumes nothing.
+use mathlib.Core.Path.{_≡_, refl, sym, ap, ap₂, _∙_}
+use mathlib.Core.Bool.{Bool, true, cond, not}
+use mathlib.Core.List.{List, [], _∷_, _++_, map, append-nil, append-assoc}
+use Prim.Native.Nat.{ℕ, zero, suc, _+_, _-_, _^_, _≤_, _<_}
+use native.Mathlib.Omega.{arith}
+use lib.ListN.{length, take, drop, getD, set, length-append, length-take, length-drop}
+use lib.Seq.{take-all}
+use Rattle.bsmp.specs.Base.{sum, upFrom, only, cut, join}
+use Rattle.bsmp.specs.Board.{variable, marked}
+use Rattle.bsmp.specs.Message.{operated, changed, edited, told}
+use Rattle.bsmp.specs.declared.Operation.{Operation}
+use Rattle.bsmp.specs.declared.VariableNumber.{VariableNumber}
+use Rattle.bsmp.proofs.Lists.{map-numbers}
+use Rattle.bsmp.proofs.Store.{join-cut}
+use Rattle.lists.specs.Put.{put, part}
+use Rattle.lists.proofs.Mask.{length-mask}
+use Rattle.sets.specs.Members.{membersBelow, membersOf, sizeAt, setBytes}
+use Rattle.sets.specs.Promises.{Sound, Placed}
+use Rattle.sets.proofs.Marks.{has-not, has-none}
+
+-- all marks: every variable is a member
+only-all : (f : VariableNumber → Bool) (i n : ℕ) → ((k : ℕ) → k < i + n → f (variable k) ≡ true) → only f (map variable (upFrom i n)) ≡ map variable (upFrom i n)
+only-all f i zero e = refl
+only-all f i (suc n) e =
+    ap₂ (λ (b : Bool) (x : List VariableNumber). cond b (variable i ∷ x) x) (e i (omega arith)) (only-all f (suc i) n (λ k l. e k (omega (arith, l))))
+
+all-members : (n : ℕ) → n ≤ 64 → membersBelow (2 ^ 64 - 1) n ≡ map variable (upFrom 0 n)
+unfolding membersBelow
+all-members n h = only-all (marked (2 ^ 64 - 1)) 0 n (λ k l. has-not 64 0 k (omega arith) (omega (arith, l)) ∙ ap not (has-none k))
+
+map-map : {A B C : Type 0} (f : B → C) (g : A → B) (l : List A) → map f (map g l) ≡ map (λ x. f (g x)) l
+map-map f g [] = refl
+map-map f g (x ∷ l) = ap (f (g x) ∷_) (map-map f g l)
+
+-- what stands at each variable's number, for all of them
+at-all : {A : Type 0} (l : List A) (d : A) → map (λ j. getD l (j .0) d) (map variable (upFrom 0 (length l))) ≡ l
+at-all l d = map-map (λ j. getD l (j .0) d) variable (upFrom 0 (length l)) ∙ map-numbers l d
+
+-- a store of just the length is cut into as many pieces as there are sizes
+cut-length : (ns s : List ℕ) → sum ns ≡ length s → length (cut ns s) ≡ length ns
+unfolding sum
+cut-length [] [] h = refl
+cut-length [] (x ∷ s) h = absurd (omega (arith, h))
+cut-length (n ∷ ns) s h = ap suc (cut-length ns (drop n s) (simp length-drop (omega (arith, h))))
+
+module _ (ns s : List ℕ) (z : Sound ns s) where
+  all-told : told (cut ns s) (membersOf (2 ^ 64 - 1) ns) ≡ s
+  unfolding told
+  all-told =
+      ap (λ is. join (map (λ j. getD (cut ns s) (j .0) []) is)) (all-members (length ns) (z .few) ∙ ap (λ k. map variable (upFrom 0 k)) (sym (cut-length ns s (z .exact))))
+      ∙ ap join (at-all (cut ns s) []) ∙ join-cut ns s
+
+  all-sizes : map (sizeAt ns) (membersOf (2 ^ 64 - 1) ns) ≡ ns
+  all-sizes = ap (map (sizeAt ns)) (all-members (length ns) (z .few)) ∙ at-all ns 0
+
+  -- the values of all, put into the reply as they stand
+  pub read-whole : (m : ℕ) (r : List ℕ) (at : ℕ) (r′ : List ℕ) → m ≡ 2 ^ 64 - 1 → r′ ≡ put r at (part s 0 (length s))
+      → Placed (told (cut ns s) (membersOf m ns)) 4096 r at (length s) r′
+  unfolding part
+  read-whole m r at r′ e w = rw (e, all-told) (record {
+    count = refl;
+    room = z .small;
+    bytes = w ∙ ap (put r at) (take-all (length s) s (omega arith));
+  })
+
+-- a change of the store is one of each piece
+take-changed : (op : Operation) (n : ℕ) (xs ms : List ℕ) → take n (changed op xs ms) ≡ changed op (take n xs) (take n ms)
+unfolding changed
+take-changed op zero xs ms = refl
+take-changed op (suc n) [] ms = refl
+take-changed op (suc n) (x ∷ xs) [] = refl
+take-changed op (suc n) (x ∷ xs) (m ∷ ms) = ap (operated op x m ∷_) (take-changed op n xs ms)
+
+drop-changed : (op : Operation) (n : ℕ) (xs ms : List ℕ) → drop n (changed op xs ms) ≡ changed op (drop n xs) (drop n ms)
+unfolding changed
+drop-changed op zero xs ms = refl
+drop-changed op (suc n) [] ms = refl
+drop-changed op (suc n) (x ∷ xs) [] = by (drop n xs)
+  where
+    by : (l : List ℕ) → [] ≡ changed op l []
+    by [] = refl
+    by (y ∷ l) = refl
+drop-changed op (suc n) (x ∷ xs) (m ∷ ms) = drop-changed op n xs ms
+
+-- no more than the value's length of the mask counts
+changed-take : (op : Operation) (xs ms : List ℕ) → changed op xs (take (length xs) ms) ≡ changed op xs ms
+unfolding changed
+changed-take op [] ms = refl
+changed-take op (x ∷ xs) [] = refl
+changed-take op (x ∷ xs) (m ∷ ms) = ap (operated op x m ∷_) (changed-take op xs ms)
+
+drop-all : (l : List ℕ) → drop (length l) l ≡ []
+drop-all [] = refl
+drop-all (x ∷ l) = drop-all l
+
+put-all : (s x : List ℕ) → length x ≡ length s → put s 0 x ≡ x
+unfolding put
+put-all s x e =
+    let n : 0 + length x ≡ length s = omega arith in
+    ap (λ k. x ++ drop k s) n ∙ ap (x ++_) (drop-all s) ∙ append-nil x
+
+module _ (op : Operation) where
+  each : (vs ps : List (List ℕ)) → List (List ℕ)
+  each [] ps = []
+  each (v ∷ vs) [] = v ∷ vs
+  each (v ∷ vs) (p ∷ ps) = changed op v p ∷ each vs ps
+
+  at-front : (ws : List (List ℕ)) (v : List ℕ) (vs : List (List ℕ)) → getD (ws ++ v ∷ vs) (length ws) [] ≡ v
+  at-front [] v vs = refl
+  at-front (w ∷ ws) v vs = at-front ws v vs
+
+  set-front : (ws : List (List ℕ)) (v x : List ℕ) (vs : List (List ℕ)) → set (ws ++ v ∷ vs) (length ws) x ≡ ws ++ x ∷ vs
+  set-front [] v x vs = refl
+  set-front (w ∷ ws) v x vs = ap (w ∷_) (set-front ws v x vs)
+
+  -- neighbours edited one after another
+  edited-each : (ws vs ps : List (List ℕ)) → edited op (map variable (upFrom (length ws) (length vs))) ps (ws ++ vs) ≡ ws ++ each vs ps
+  unfolding each
+  edited-each ws [] ps = refl
+  edited-each ws (v ∷ vs) [] = refl
+  edited-each ws (v ∷ vs) (p ∷ ps) =
+      let x : List ℕ = changed op v p in
+      let n : length (ws ++ x ∷ []) ≡ suc (length ws) = simp length-append (omega arith) in
+      ap (edited op (map variable (upFrom (suc (length ws)) (length vs))) ps)
+      (ap (λ y. set (ws ++ v ∷ vs) (length ws) (changed op y p)) (at-front ws v vs) ∙ set-front ws v x vs ∙ sym (append-assoc ws (x ∷ []) vs))
+      ∙ ap (λ k. edited op (map variable (upFrom k (length vs))) ps ((ws ++ x ∷ []) ++ vs)) (sym n)
+      ∙ edited-each (ws ++ x ∷ []) vs ps ∙ append-assoc ws (x ∷ []) (each vs ps)
+
+  cut-each : (ns s q : List ℕ) → sum ns ≡ length s → each (cut ns s) (cut ns q) ≡ cut ns (changed op s q)
+  unfolding each sum changed
+  cut-each [] [] q h = refl
+  cut-each [] (x ∷ s) q h = absurd (omega (arith, h))
+  cut-each (n ∷ ns) s q h =
+      ap₂ _∷_ (sym (take-changed op n s q)) (cut-each ns (drop n s) (drop n q) (simp length-drop (omega (arith, h))) ∙ ap (cut ns) (sym (drop-changed op n s q)))
+
+  module _ (ns s p : List ℕ) (f : ℕ) (z : Sound ns s) where
+    pub whole-room : (m : ℕ) → m ≡ 2 ^ 64 - 1 → f + setBytes m ns ≤ length p → f + length s ≤ length p
+    unfolding setBytes
+    whole-room m e h = rw (e, all-sizes ns s z, z .exact) at h
+
+    -- all values changed by the payload from f on
+    pub change-whole : (m : ℕ) (s′ : List ℕ) → m ≡ 2 ^ 64 - 1 → f + length s ≤ length p → s′ ≡ put s 0 (changed op (part s 0 (length s)) (part p f (length s)))
+        → cut ns s′ ≡ edited op (membersOf m ns) (cut (map (sizeAt ns) (membersOf m ns)) (drop f p)) (cut ns s)
+    unfolding part
+    change-whole m s′ e h w =
+        let q : List ℕ = drop f p in
+        let c : changed op (take (length s) s) (take (length s) q) ≡ changed op s q =
+        ap (λ y. changed op y (take (length s) q)) (take-all (length s) s (omega arith)) ∙ changed-take op s q in
+        let l : length (changed op s q) ≡ length s = length-mask op s q ∙ simp length-drop (omega arith) in
+        let k : edited op (map variable (upFrom 0 (length ns))) (cut ns q) (cut ns s) ≡ cut ns (changed op s q) =
+        ap (λ n. edited op (map variable (upFrom 0 n)) (cut ns q) (cut ns s)) (sym (cut-length ns s (z .exact))) ∙ edited-each [] (cut ns s) (cut ns q) ∙ cut-each ns s q (z .exact) in
+        ap (cut ns) (w ∙ ap (put s 0) c ∙ put-all s (changed op s q) l) ∙ sym k
+        ∙ ap₂ (λ is ms. edited op is (cut ms q) (cut ns s)) (sym (all-members (length ns) (z .few))) (sym (all-sizes ns s z))
+        ∙ ap (λ y. edited op (membersOf y ns) (cut (map (sizeAt ns) (membersOf y ns)) q) (cut ns s)) (sym e)
