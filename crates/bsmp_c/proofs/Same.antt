@@ -8,8 +8,8 @@ use Rattle.bsmp.specs.Board.{variable, function}
 use Rattle.bsmp.specs.declared.Variable.{Variable}
 use Rattle.records.specs.Lending.{recordsOf}
 use Rattle.records.specs.declared.Groups.{Groups}
-use Rattle.entries.specs.Taken.{takenOf}
-use Rattle.entries.proofs.Same.{result-same, store-same, signed-same, unsigned-same, signed-bytes-same, unsigned-bytes-same}
+use Rattle.taken.specs.Taken.{takenOf}
+use Rattle.calls.proofs.Same.{result-same, store-same, signed-same, unsigned-same, signed-bytes-same, unsigned-bytes-same}
 use Rattle.told.specs.Told.{ranFrom}
 use Rattle.told.specs.Comes.{resultFrom, storeFrom, signedFrom, unsignedFrom, signedBytesFrom, unsignedBytesFrom}
 

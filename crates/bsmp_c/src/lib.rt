@@ -26,7 +26,7 @@ pub extern "C" fn bsmp_packet(
     ensures { λ r. ⌜ toldLeft (toldWith r (now (groups .exit))) (now (reply .exit)) (now (values .exit)) (now (blocks .exit))
         ≡ lastingTold (packetOf (now (variables .entry)) (now (curves .entry)) (now (functions .entry)) (now (groups .entry)) own multicast busy (now (values .entry)) (now (blocks .entry)) (now (request .entry)) (now (reply .entry))) ⌝ }
 {
-    let records = entries::records_of(variables);
+    let records = taken::records_of(variables);
     let made = *groups;
     let done = told::packet_told(
         records,
@@ -63,7 +63,7 @@ pub extern "C" fn bsmp_function_result(
     ensures { λ r. ⌜ toldReplied r (now (reply .exit))
         ≡ repliedTold (resultFrom (now (variables .entry)) (now (curves .entry)) (now (functions .entry)) (now (groups .entry)) (now (values .entry)) (now (blocks .entry)) function due failed error (now (output .entry)) (now (reply .entry))) ⌝ }
 {
-    let records = entries::records_of(variables);
+    let records = taken::records_of(variables);
     let made = *groups;
     told::result_told(
         records,
@@ -95,7 +95,7 @@ pub extern "C" fn bsmp_board_store(
     ensures { λ r. ⌜ numbered r (now (values .exit))
         ≡ keptTold (storeFrom (now (variables .entry)) (now (curves .entry)) (now (functions .entry)) (now (groups .entry)) (now (values .entry)) (now (blocks .entry)) variable (now (bytes .entry))) ⌝ }
 {
-    let records = entries::records_of(variables);
+    let records = taken::records_of(variables);
     let made = *groups;
     told::store_told(
         records,
@@ -117,7 +117,7 @@ pub extern "C" fn bsmp_read_signed(
 ) -> ToldSigned
     ensures { λ r. ⌜ signedSays r ≡ readingTold (signedFrom (now (variables .entry)) variable (now (bytes .entry))) ⌝ }
 {
-    let records = entries::records_of(variables);
+    let records = taken::records_of(variables);
     told::read_signed_told(records, variable, bytes)
 }
 
@@ -129,7 +129,7 @@ pub extern "C" fn bsmp_read_unsigned(
 ) -> ToldUnsigned
     ensures { λ r. ⌜ unsignedSays r ≡ readingTold (unsignedFrom (now (variables .entry)) variable (now (bytes .entry))) ⌝ }
 {
-    let records = entries::records_of(variables);
+    let records = taken::records_of(variables);
     told::read_unsigned_told(records, variable, bytes)
 }
 
@@ -142,7 +142,7 @@ pub extern "C" fn bsmp_write_signed(
 ) -> u8
     ensures { λ r. ⌜ numbered r (now (buffer .exit)) ≡ wroteTold (signedBytesFrom (now (variables .entry)) variable number (now (buffer .entry))) ⌝ }
 {
-    let records = entries::records_of(variables);
+    let records = taken::records_of(variables);
     told::write_signed_told(records, variable, number, buffer)
 }
 
@@ -155,6 +155,6 @@ pub extern "C" fn bsmp_write_unsigned(
 ) -> u8
     ensures { λ r. ⌜ numbered r (now (buffer .exit)) ≡ wroteTold (unsignedBytesFrom (now (variables .entry)) variable number (now (buffer .entry))) ⌝ }
 {
-    let records = entries::records_of(variables);
+    let records = taken::records_of(variables);
     told::write_unsigned_told(records, variable, number, buffer)
 }

@@ -1,10 +1,6 @@
 -- Modules that belong to no one function; the walks are made by tools/walks. Assumes nothing.
-pub mod Taken
-pub mod Same
 pub mod Unique
 pub mod Apart
-pub mod Walk
-pub mod Byte
 pub mod PacketWalk
 pub mod ResultWalk
 pub mod StoreWalk

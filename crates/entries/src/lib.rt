@@ -7,51 +7,14 @@ use readings::SignedReading;
 use readings::UnsignedReading;
 use readings::Writing;
 use records::Groups;
-use records::Records;
 use results::Ran;
 use results::Stored;
 ghost use mathlib.Core.Path.{_≡_};
-ghost use Prim.Native.Nat.{min};
 ghost use Rattle.node.specs.Promise.{left};
 ghost use Rattle.results.specs.Results.{replied, kept};
 ghost use Rattle.readings.specs.Answers.{signedReadingOf, unsignedReadingOf, wrote};
-ghost use Rattle.entries.specs.Taken.{takenOf};
 ghost use Rattle.calls.specs.Board.{doneWith};
 ghost use Rattle.calls.specs.Comes.{packetOf, resultOf, storeOf, signedOf, unsignedOf, signedBytesOf, unsignedBytesOf};
-
-// How many of so many records have a place in the columns.
-fn stored(count: usize) -> usize
-    ensures { λ r. ⌜ r ≡ min count 64 ⌝ }
-{
-    if count < 64 {
-        return count;
-    }
-    64
-}
-
-// The lent records by columns, in one walk that stores into them in place. More than 64 are counted, and so refused by the work.
-pub fn records_of(variables: &[Variable]) -> Records
-    ensures { λ r. ⌜ r ≡ takenOf (now (variables .entry)) ⌝ }
-{
-    let mut writable = [0u8; 64];
-    let mut sizes = [0u8; 64];
-    let mut kinds = [0u8; 64];
-    let n = stored(variables.len());
-    let mut i: usize = 0;
-    while i < n {
-        let v = variables[i];
-        writable[i] = v.writable;
-        sizes[i] = v.size;
-        kinds[i] = v.kind;
-        i += 1;
-    }
-    Records {
-        count: variables.len(),
-        writable,
-        sizes,
-        kinds,
-    }
-}
 
 // A packet: its outcome, with the reply in the reply buffer; the stores and the group table are changed in place.
 pub fn packet(
@@ -70,7 +33,7 @@ pub fn packet(
     ensures { λ r. ⌜ left (doneWith r (now (groups .exit))) (now (reply .exit)) (now (values .exit)) (now (blocks .exit))
         ≡ packetOf (now (variables .entry)) (now (curves .entry)) (now (functions .entry)) (now (groups .entry)) own multicast busy (now (values .entry)) (now (blocks .entry)) (now (request .entry)) (now (reply .entry)) ⌝ }
 {
-    let records = records_of(variables);
+    let records = taken::records_of(variables);
     let made = *groups;
     let done = node::packet(
         records,
@@ -106,7 +69,7 @@ pub fn function_result(
     ensures { λ r. ⌜ replied r (now (reply .exit))
         ≡ resultOf (now (variables .entry)) (now (curves .entry)) (now (functions .entry)) (now (groups .entry)) (now (values .entry)) (now (blocks .entry)) function due ran (now (output .entry)) (now (reply .entry)) ⌝ }
 {
-    let records = records_of(variables);
+    let records = taken::records_of(variables);
     let made = *groups;
     results::function_result(
         records,
@@ -137,7 +100,7 @@ pub fn board_store(
     ensures { λ r. ⌜ kept r (now (values .exit))
         ≡ storeOf (now (variables .entry)) (now (curves .entry)) (now (functions .entry)) (now (groups .entry)) (now (values .entry)) (now (blocks .entry)) variable (now (bytes .entry)) ⌝ }
 {
-    let records = records_of(variables);
+    let records = taken::records_of(variables);
     let made = *groups;
     results::board_store(
         records,
@@ -155,7 +118,7 @@ pub fn board_store(
 pub fn read_signed(variables: &[Variable], variable: VariableNumber, bytes: &[u8]) -> SignedReading
     ensures { λ r. ⌜ signedReadingOf r ≡ signedOf (now (variables .entry)) variable (now (bytes .entry)) ⌝ }
 {
-    let records = records_of(variables);
+    let records = taken::records_of(variables);
     readings::read_signed(records, variable, bytes)
 }
 
@@ -166,7 +129,7 @@ pub fn read_unsigned(
 ) -> UnsignedReading
     ensures { λ r. ⌜ unsignedReadingOf r ≡ unsignedOf (now (variables .entry)) variable (now (bytes .entry)) ⌝ }
 {
-    let records = records_of(variables);
+    let records = taken::records_of(variables);
     readings::read_unsigned(records, variable, bytes)
 }
 
@@ -179,7 +142,7 @@ pub fn write_signed(
 ) -> Writing
     ensures { λ r. ⌜ wrote r (now (buffer .exit)) ≡ signedBytesOf (now (variables .entry)) variable number (now (buffer .entry)) ⌝ }
 {
-    let records = records_of(variables);
+    let records = taken::records_of(variables);
     readings::write_signed(records, variable, number, buffer)
 }
 
@@ -191,6 +154,6 @@ pub fn write_unsigned(
 ) -> Writing
     ensures { λ r. ⌜ wrote r (now (buffer .exit)) ≡ unsignedBytesOf (now (variables .entry)) variable number (now (buffer .entry)) ⌝ }
 {
-    let records = records_of(variables);
+    let records = taken::records_of(variables);
     readings::write_unsigned(records, variable, number, buffer)
 }

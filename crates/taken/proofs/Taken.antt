@@ -12,7 +12,7 @@ use Rattle.bsmp.specs.declared.Variable.{Variable}
 use Rattle.records.specs.declared.Records.{Records}
 use Rattle.records.specs.Lending.{recordAt, recordsOf}
 use Rattle.records.proofs.Lending.{record-count, record-at}
-use Rattle.entries.specs.Taken.{countedOf, blankVariable, variableAt, withRecord, takenTo, takenOf}
+use Rattle.taken.specs.Taken.{countedOf, blankVariable, variableAt, withRecord, takenTo, takenOf}
 
 to-count : (vs : List Variable) (k : ℕ) → takenTo vs k .count ≡ length vs
 unfolding takenTo

@@ -49,25 +49,25 @@ use denote.Triple.Spec.{Meets, tripleOf}
 use denote.Triple.Table.{entered, cited}
 use denote.Triple.Walked.{says, Stays, stay-none-slice, walkOf, goes-none-slice, Walks, ends-at, walked, walk-meets}
 use denote.Exit.{yes}
-use Rattle.entries.specs.Taken.{blankVariable, withRecord, countedOf, takenTo, takenOf}
+use Rattle.taken.specs.Taken.{blankVariable, withRecord, countedOf, takenTo, takenOf}
 use Rattle.bsmp.specs.declared.Variable.{Variable}
 use Rattle.records.specs.declared.Records.{Records}
 use Rattle.bsmp.proofs.Variable as R
 use Rattle.bsmp.proofs.Variable.Laws as R′
 use Rattle.records.proofs.Records as T
 use Rattle.records.proofs.Records.Laws as T′
-use Rattle.entries.proofs.Walk.{down, span}
-use Rattle.entries.proofs.Byte.{byte, set-map, bytes-set, bytes-repeat}
-use Rattle.entries.proofs.Taken.{taken-count}
-use Rattle.entries.proofs.stored as few
-use Rattle.entries.proofs.stored.Symbol as few-def
-use Rattle.entries.proofs.stored.Symbol.{name as #entries·stored}
-use Rattle.entries.proofs.stored.Met as few-thm
-use Rattle.entries.proofs.records_of.Key.{name as #entries·records-of}
-use Rattle.entries.proofs.records_of as f
-use Rattle.entries.proofs.records_of.Statement as stated
-use Rattle.entries.proofs.records_of.Code as code
-use Rattle.entries.proofs.records_of.Code.Mir as text
+use Rattle.taken.proofs.Walk.{down, span}
+use Rattle.taken.proofs.Byte.{byte, set-map, bytes-set, bytes-repeat}
+use Rattle.taken.proofs.Taken.{taken-count}
+use Rattle.taken.proofs.stored as few
+use Rattle.taken.proofs.stored.Symbol as few-def
+use Rattle.taken.proofs.stored.Symbol.{name as #taken·stored}
+use Rattle.taken.proofs.stored.Met as few-thm
+use Rattle.taken.proofs.records_of.Key.{name as #taken·records-of}
+use Rattle.taken.proofs.records_of as f
+use Rattle.taken.proofs.records_of.Statement as stated
+use Rattle.taken.proofs.records_of.Code as code
+use Rattle.taken.proofs.records_of.Code.Mir as text
 
 abbrev stayed : Stays (f.ended .signature .params) (f.ended .kept)
 stayed = (stay-none-slice (0 ∷ []) tt (plain (λ _. R.the-row)) yes, tt)
@@ -212,7 +212,7 @@ module _ {M : Type 1} (𝓤 : URA M) (H : Heap 𝓤) (A : Atoms 𝓤) (W : Given
   unfolding takenTo
   one-more i = ap (takenTo ys) (sym (add-one i))
 
-  module _ (𝓣 : Tables 𝓤 H) (fm : FmC 𝓤 H (W .laws) (𝓣 .C)) (known-few : Triple 𝓤 (𝓣 .C #entries·stored) (Few 𝓤 H A mem run)) where
+  module _ (𝓣 : Tables 𝓤 H) (fm : FmC 𝓤 H (W .laws) (𝓣 .C)) (known-few : Triple 𝓤 (𝓣 .C #taken·stored) (Few 𝓤 H A mem run)) where
     abbrev C : Calls 𝓤 H
     C = 𝓣 .C
 
@@ -356,12 +356,12 @@ module _ {M : Type 1} (𝓤 : URA M) (H : Heap 𝓤) (A : Atoms 𝓤) (W : Given
         looped l₀ l₁ l₂ l₃ l₄ l₅ l₆ l₇ l₈ l₉ l₁₀ l₁₁ l₁₂ l₁₃ l₁₄ l₁₅ l₁₆ l₁₇ l₁₈ l₁₉ l₂₀ l₂₁ (0, (zero-le, is-none))))))))))))))))))))))))))))
 
 module _ {M : Type 1} (𝓤 : URA M) (H : Heap 𝓤) (A : Atoms 𝓤) (W : Given 𝓤 H A) (mem : Memory → SProp 𝓤) (run : Routine → Fun 𝓤) (𝓣 : Tables 𝓤 H) where
-  f-walks : FmC 𝓤 H (W .laws) (𝓣 .C) → Triple 𝓤 (𝓣 .C #entries·stored) (Few 𝓤 H A mem run)
+  f-walks : FmC 𝓤 H (W .laws) (𝓣 .C) → Triple 𝓤 (𝓣 .C #taken·stored) (Few 𝓤 H A mem run)
       → Walks 𝓤 H A f.ended stayed (WpFn 𝓤 H (𝓣 .C) (𝓣 .Λ) code.function) (f.clauses 𝓤 H A mem run)
   f-walks fm known-few = walked 𝓤 H A f.ended stayed (f.clauses 𝓤 H A mem run) (WpFn 𝓤 H (𝓣 .C) (𝓣 .Λ) code.function) (λ κs. (slice-vals, tt)) (λ κs. (shr-slice-tells (named 0) (κs .0) R.the-row, tt))
       (λ κs qs bounds a g are. via 𝓤 _ (fst∗ 𝓤 _ (emp 𝓤)) (walk 𝓤 H A W mem run (κs .0) (qs .0) (a .0 .ptr .0) (a .0 .ptr .1) (a .0 .name) (a .0 .now) (are .0 .0 .1) 𝓣 fm known-few))
 
-  f-meets : Triple 𝓤 (𝓣 .C #entries·stored) (Few 𝓤 H A mem run)
+  f-meets : Triple 𝓤 (𝓣 .C #taken·stored) (Few 𝓤 H A mem run)
       → Meets 𝓤 H A f.signature (WpFn 𝓤 H (𝓣 .C) (𝓣 .Λ) code.function) (f.spec 𝓤 H A mem run)
   f-meets known-few = walk-meets 𝓤 H A f.ended stayed W (goes-none-slice 𝓤 H A W 1 (0 ∷ []) tt (plain (λ _. R.the-row)) yes, tt) (f.clauses 𝓤 H A mem run) (WpFn 𝓤 H (𝓣 .C) (𝓣 .Λ) code.function) (WpFn-mono 𝓤 H (W .laws) 𝓣 code.function)
       (f-walks (fmOf 𝓤 H (W .laws) 𝓣) known-few)
@@ -370,6 +370,6 @@ pub records-of-spec : {M : Type 1} → stated.statement M
 unfolding code.routine tablesOf
 records-of-spec 𝓤 H 𝓜 𝓖 𝓡 =
     entered 𝓤 H (tripleOf 𝓤 H (𝓖 .A) f.signature (f.spec 𝓤 H (𝓖 .A) (𝓜 .mem) (𝓡 .run)))
-    (tables 𝓤 H 𝓜 𝓡 code.env .C) (tables 𝓤 H 𝓜 𝓡 code.env .Λ) #entries·records-of code.function (code.unfolded 𝓤 H 𝓜 𝓡)
+    (tables 𝓤 H 𝓜 𝓡 code.env .C) (tables 𝓤 H 𝓜 𝓡 code.env .Λ) #taken·records-of code.function (code.unfolded 𝓤 H 𝓜 𝓡)
     (f-meets 𝓤 H (𝓖 .A) (givenOf 𝓤 H 𝓜 𝓖) (𝓜 .mem) (𝓡 .run) (tablesOf 𝓤 H 𝓜 (tables 𝓤 H 𝓜 𝓡 code.env))
-    (cited 𝓤 H (Few 𝓤 H (𝓖 .A) (𝓜 .mem) (𝓡 .run)) 𝓜 𝓡 code.env #entries·stored few-def.routine code.calls-entries·stored (few-thm.met 𝓤 H 𝓜 𝓖 𝓡)))
+    (cited 𝓤 H (Few 𝓤 H (𝓖 .A) (𝓜 .mem) (𝓡 .run)) 𝓜 𝓡 code.env #taken·stored few-def.routine code.calls-taken·stored (few-thm.met 𝓤 H 𝓜 𝓖 𝓡)))

@@ -25,10 +25,10 @@ use Rattle.results.specs.Results.{ranOf, Replied, replied, repliedOf, Kept, kep
 use Rattle.results.specs.declared.Ran.{Ran}
 use Rattle.results.specs.declared.Stored.the-variants as S
 use Rattle.readings.specs.Answers.{Wrote, writes}
-use Rattle.entries.specs.Taken.{takenOf}
+use Rattle.taken.specs.Taken.{takenOf}
 use Rattle.calls.specs.Board.{boardTable}
 use Rattle.calls.specs.Comes.{packetOf, resultOf, storeOf, signedOf, unsignedOf, signedBytesOf, unsignedBytesOf}
-use Rattle.entries.proofs.Taken.{taken-same}
+use Rattle.taken.proofs.Taken.{taken-same}
 
 broken : (b : Bool) → (b ≡ true → ⊥) → not b ≡ true
 broken true h = absurd (h refl)
