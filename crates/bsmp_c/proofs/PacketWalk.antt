@@ -41,16 +41,16 @@ use denote.Exit.{yes}
 use Rattle.records.specs.Lending.{recordsOf}
 use Rattle.taken.specs.Taken.{takenOf}
 use Rattle.node.specs.Promise.{Lasting}
-use Rattle.told.specs.Told.{toldLeft, lastingTold, toldWith}
-use Rattle.told.specs.declared.ToldDone.{ToldDone}
+use Rattle.telling.specs.Telling.{toldLeft, lastingTold, toldWith}
+use Rattle.telling.specs.declared.ToldDone.{ToldDone}
 use Rattle.records.specs.declared.Records.{Records}
 use Rattle.bsmp.specs.declared.Variable.{Variable}
 use Rattle.records.specs.declared.Groups.{Groups}
 use Rattle.taken.proofs.Walk.{down, span}
 use Rattle.told.proofs.Told as M0
 use Rattle.told.proofs.Told.Laws as M0′
-use Rattle.told.proofs.ToldDone as M1
-use Rattle.told.proofs.ToldDone.Laws as M1′
+use Rattle.telling.proofs.ToldDone as M1
+use Rattle.telling.proofs.ToldDone.Laws as M1′
 use Rattle.records.proofs.Records as M2
 use Rattle.records.proofs.Records.Laws as M2′
 use Rattle.bsmp.proofs.Variable as M3

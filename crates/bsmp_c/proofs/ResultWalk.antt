@@ -41,7 +41,7 @@ use denote.Exit.{yes}
 use Rattle.records.specs.Lending.{recordsOf}
 use Rattle.taken.specs.Taken.{takenOf}
 use Rattle.results.specs.Results.{Replied}
-use Rattle.told.specs.Told.{toldReplied, repliedTold}
+use Rattle.telling.specs.Telling.{toldReplied, repliedTold}
 use Rattle.told.specs.declared.Told.{Told}
 use Rattle.records.specs.declared.Records.{Records}
 use Rattle.bsmp.specs.declared.Variable.{Variable}

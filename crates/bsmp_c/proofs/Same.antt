@@ -11,7 +11,7 @@ use Rattle.records.specs.declared.Groups.{Groups}
 use Rattle.taken.specs.Taken.{takenOf}
 use Rattle.calls.proofs.Same.{result-same, store-same, signed-same, unsigned-same, signed-bytes-same, unsigned-bytes-same}
 use Rattle.told.specs.Told.{ranFrom}
-use Rattle.told.specs.Comes.{resultFrom, storeFrom, signedFrom, unsignedFrom, signedBytesFrom, unsignedBytesFrom}
+use Rattle.telling.specs.Comes.{resultFrom, storeFrom, signedFrom, unsignedFrom, signedBytesFrom, unsignedBytesFrom}
 
 pub result-from-same : (vs : List Variable) (cs fs : List ℕ) (g : Groups) (values blocks : List ℕ) (f : ℕ) (due failed : Bool) (error : ℕ) (output reply : List ℕ)
     → resultFrom (recordsOf (takenOf vs)) cs fs g values blocks f due failed error output reply ≡ resultFrom vs cs fs g values blocks f due failed error output reply

@@ -40,7 +40,7 @@ use denote.Exit.{yes}
 use Rattle.records.specs.Lending.{recordsOf}
 use Rattle.taken.specs.Taken.{takenOf}
 use Rattle.results.specs.Results.{Kept}
-use Rattle.told.specs.Told.{numbered, keptTold}
+use Rattle.telling.specs.Telling.{numbered, keptTold}
 use Rattle.records.specs.declared.Records.{Records}
 use Rattle.bsmp.specs.declared.Variable.{Variable}
 use Rattle.records.specs.declared.Groups.{Groups}

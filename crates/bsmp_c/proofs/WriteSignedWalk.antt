@@ -41,7 +41,7 @@ use denote.Exit.{yes}
 use Rattle.records.specs.Lending.{recordsOf}
 use Rattle.taken.specs.Taken.{takenOf}
 use Rattle.readings.specs.Answers.{Wrote}
-use Rattle.told.specs.Told.{numbered, wroteTold}
+use Rattle.telling.specs.Telling.{numbered, wroteTold}
 use Rattle.records.specs.declared.Records.{Records}
 use Rattle.bsmp.specs.declared.Variable.{Variable}
 use Rattle.taken.proofs.Walk.{down, span}

@@ -6,8 +6,9 @@ use told::ToldSigned;
 use told::ToldUnsigned;
 ghost use mathlib.Core.Path.{_≡_};
 ghost use Rattle.calls.specs.Comes.{packetOf};
-ghost use Rattle.told.specs.Told.{toldLeft, lastingTold, toldWith, toldReplied, repliedTold, numbered, keptTold, wroteTold, readingTold, signedSays, unsignedSays};
-ghost use Rattle.told.specs.Comes.{resultFrom, storeFrom, signedFrom, unsignedFrom, signedBytesFrom, unsignedBytesFrom};
+ghost use Rattle.told.specs.Told.{readingTold, signedSays, unsignedSays};
+ghost use Rattle.telling.specs.Telling.{toldLeft, lastingTold, toldWith, toldReplied, repliedTold, numbered, keptTold, wroteTold};
+ghost use Rattle.telling.specs.Comes.{resultFrom, storeFrom, signedFrom, unsignedFrom, signedBytesFrom, unsignedBytesFrom};
 
 #[no_mangle]
 pub extern "C" fn bsmp_packet(
@@ -28,7 +29,7 @@ pub extern "C" fn bsmp_packet(
 {
     let records = taken::records_of(variables);
     let made = *groups;
-    let done = told::packet_told(
+    let done = telling::packet_told(
         records,
         curves,
         functions,
@@ -65,7 +66,7 @@ pub extern "C" fn bsmp_function_result(
 {
     let records = taken::records_of(variables);
     let made = *groups;
-    told::result_told(
+    telling::result_told(
         records,
         curves,
         functions,
@@ -97,7 +98,7 @@ pub extern "C" fn bsmp_board_store(
 {
     let records = taken::records_of(variables);
     let made = *groups;
-    told::store_told(
+    telling::store_told(
         records,
         curves,
         functions,
@@ -118,7 +119,7 @@ pub extern "C" fn bsmp_read_signed(
     ensures { λ r. ⌜ signedSays r ≡ readingTold (signedFrom (now (variables .entry)) variable (now (bytes .entry))) ⌝ }
 {
     let records = taken::records_of(variables);
-    told::read_signed_told(records, variable, bytes)
+    telling::read_signed_told(records, variable, bytes)
 }
 
 #[no_mangle]
@@ -130,7 +131,7 @@ pub extern "C" fn bsmp_read_unsigned(
     ensures { λ r. ⌜ unsignedSays r ≡ readingTold (unsignedFrom (now (variables .entry)) variable (now (bytes .entry))) ⌝ }
 {
     let records = taken::records_of(variables);
-    told::read_unsigned_told(records, variable, bytes)
+    telling::read_unsigned_told(records, variable, bytes)
 }
 
 #[no_mangle]
@@ -143,7 +144,7 @@ pub extern "C" fn bsmp_write_signed(
     ensures { λ r. ⌜ numbered r (now (buffer .exit)) ≡ wroteTold (signedBytesFrom (now (variables .entry)) variable number (now (buffer .entry))) ⌝ }
 {
     let records = taken::records_of(variables);
-    told::write_signed_told(records, variable, number, buffer)
+    telling::write_signed_told(records, variable, number, buffer)
 }
 
 #[no_mangle]
@@ -156,5 +157,5 @@ pub extern "C" fn bsmp_write_unsigned(
     ensures { λ r. ⌜ numbered r (now (buffer .exit)) ≡ wroteTold (unsignedBytesFrom (now (variables .entry)) variable number (now (buffer .entry))) ⌝ }
 {
     let records = taken::records_of(variables);
-    told::write_unsigned_told(records, variable, number, buffer)
+    telling::write_unsigned_told(records, variable, number, buffer)
 }

@@ -8,7 +8,7 @@ use lib.IntN.{ℤ, pos}
 use lib.ListN.{length}
 use Rattle.bsmp.specs.Board.{Table, layout, blockSizes, usable, usableVariables}
 use Rattle.bsmp.specs.Packet.{Result, refuse, packet, functionResult, boardStore}
-use Rattle.bsmp.specs.Number.{Reading, Written, reading, writing}
+use Rattle.bsmp.specs.Number.{reading, writing}
 use Rattle.bsmp.specs.declared.Variable.{Variable}
 use Rattle.bsmp.specs.declared.VariableNumber.{VariableNumber}
 use Rattle.bsmp.specs.declared.FunctionNumber.{FunctionNumber}
@@ -21,10 +21,10 @@ use Rattle.records.specs.declared.Groups.{Groups}
 use Rattle.records.proofs.Sound.{usable-sound, variables-most}
 use Rattle.wire.specs.Opening.{placed}
 use Rattle.node.specs.Promise.{lentState, tableWith, Lasting, lasting}
-use Rattle.results.specs.Results.{ranOf, Replied, replied, repliedOf, Kept, kept, keptOf}
+use Rattle.results.specs.Results.{replied, repliedOf, kept, keptOf}
 use Rattle.results.specs.declared.Ran.{Ran}
 use Rattle.results.specs.declared.Stored.the-variants as S
-use Rattle.readings.specs.Answers.{Wrote, writes}
+use Rattle.readings.specs.Answers.{writes}
 use Rattle.taken.specs.Taken.{takenOf}
 use Rattle.calls.specs.Board.{boardTable}
 use Rattle.calls.specs.Comes.{packetOf, resultOf, storeOf, signedOf, unsignedOf, signedBytesOf, unsignedBytesOf}

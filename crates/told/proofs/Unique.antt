@@ -1,7 +1,6 @@
--- Uniqueness: any two results that a promise allows are equal; and what is told loses nothing of the outcome. Assumes nothing.
+-- Uniqueness: any two numbers that a promise allows are equal; and what is told loses nothing of the outcome. Assumes nothing.
 use mathlib.Core.Path.{_≡_, refl, sym, ap, _∙_}
 use mathlib.Core.Bool.{cond}
-use mathlib.Core.List.{List}
 use Prim.Native.Nat.{ℕ}
 use lib.Dec.{eqb}
 use lib.IntN.{ℤ, pos, negsuc}
@@ -12,24 +11,10 @@ use Rattle.bsmp.specs.declared.Refusal.{Refusal}
 use Rattle.bsmp.specs.declared.Refusal.the-variants.{BoardUnusable, BadAddress, ReplyBufferShort, PacketLength, Checksum, NotForThisBoard}
 use Rattle.bsmp.specs.declared.Refusal.the-variants.{NoSuchFunction, OutputLength, NoSuchVariable, WrongByteCount, WrongKind, DoesNotFit}
 use Rattle.bsmp.specs.Codes.{refusalNumber}
-use Rattle.records.specs.declared.Groups.{Groups}
-use Rattle.told.specs.Told.{toldOf, ToldLasting, toldLeft, toldWith, ToldReplied, toldReplied, Numbered, numbered, Numbers, signedSays, unsignedSays}
+use Rattle.told.specs.Told.{toldOf, Numbers, signedSays, unsignedSays}
 use Rattle.told.specs.declared.Told.{Told}
 use Rattle.told.specs.declared.ToldSigned.{ToldSigned}
 use Rattle.told.specs.declared.ToldUnsigned.{ToldUnsigned}
-
-pub packet-unique : (x : ToldLasting) (t t′ : Told) (g g′ : Groups) (r r′ vs vs′ bs bs′ : List ℕ)
-    → toldLeft (toldWith t g) r vs bs ≡ x → toldLeft (toldWith t′ g′) r′ vs′ bs′ ≡ x → (t ≡ t′) × (g ≡ g′) × (r ≡ r′) × (vs ≡ vs′) × (bs ≡ bs′)
-packet-unique x t t′ g g′ r r′ vs vs′ bs bs′ h k =
-    let e = h ∙ sym k in
-    (ap (λ (y : ToldLasting). y .told) e, ap (λ (y : ToldLasting). y .groups) e, ap (λ (y : ToldLasting). y .reply) e, ap (λ (y : ToldLasting). y .values) e, ap (λ (y : ToldLasting). y .blocks) e)
-
-pub function-result-unique : (x : ToldReplied) (t t′ : Told) (b b′ : List ℕ) → toldReplied t b ≡ x → toldReplied t′ b′ ≡ x → (t ≡ t′) × (b ≡ b′)
-function-result-unique x t t′ b b′ h k = (ap (λ (y : ToldReplied). y .told) (h ∙ sym k), ap (λ (y : ToldReplied). y .reply) (h ∙ sym k))
-
--- a board store, and both writings
-pub numbered-unique : (x : Numbered) (n n′ : ℕ) (b b′ : List ℕ) → numbered n b ≡ x → numbered n′ b′ ≡ x → (n ≡ n′) × (b ≡ b′)
-numbered-unique x n n′ b b′ h k = (ap (λ (y : Numbered). y .number) (h ∙ sym k), ap (λ (y : Numbered). y .bytes) (h ∙ sym k))
 
 pub read-signed-unique : (x : Numbers) (a b : ToldSigned) → signedSays a ≡ x → signedSays b ≡ x → a ≡ b
 read-signed-unique x a b h k = ap (λ (y : Numbers). record { refusal = y .refusal; number = y .number }) (h ∙ sym k)

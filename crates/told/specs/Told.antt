@@ -1,24 +1,18 @@
 -- How an ending is told to C, in numbers: 01's number of a refusal, 0 where nothing is refused. Assumes nothing.
 use mathlib.Core.Bool.{Bool, true, false}
-use mathlib.Core.List.{List}
 use Prim.Native.Nat.{ℕ}
 use lib.IntN.{ℤ, pos}
 use Rattle.bsmp.specs.Codes.{refusalNumber}
 use Rattle.bsmp.specs.Number.{Reading, is}
 use Rattle.bsmp.specs.declared.Outcome.{Outcome}
 use Rattle.bsmp.specs.declared.Outcome.the-variants as O
-use Rattle.records.specs.declared.Groups.{Groups}
-use Rattle.node.specs.Promise.{Lasting}
-use Rattle.results.specs.Results.{Replied, Kept}
 use Rattle.results.specs.declared.Ran.{Ran}
 use Rattle.results.specs.declared.Ran.the-variants.{Gave, Failed}
 use Rattle.results.specs.declared.Stored.{Stored}
 use Rattle.results.specs.declared.Stored.the-variants as S
-use Rattle.readings.specs.Answers.{Wrote}
 use Rattle.readings.specs.declared.Writing.{Writing}
 use Rattle.readings.specs.declared.Writing.the-variants as W
 use Rattle.told.specs.declared.Told.{Told}
-use Rattle.told.specs.declared.ToldDone.{ToldDone}
 use Rattle.told.specs.declared.ToldSigned.{ToldSigned}
 use Rattle.told.specs.declared.ToldUnsigned.{ToldUnsigned}
 
@@ -29,60 +23,19 @@ toldOf O.Silence = record { kind = 1; refusal = 0; due = false; function = 0; in
 toldOf (O.Run f n due) = record { kind = 2; refusal = 0; due = due; function = f .0; input = 5; length = n }
 toldOf (O.Refused r) = record { kind = 3; refusal = refusalNumber r; due = false; function = 0; input = 0; length = 0 }
 
--- a packet: the outcome, and all that was lent to the call
-pub record ToldLasting : Type 0 where
-  pub told : Told
-  pub groups : Groups
-  pub reply : List ℕ
-  pub values : List ℕ
-  pub blocks : List ℕ
-
-abbrev pub toldLeft : ToldDone → (reply values blocks : List ℕ) → ToldLasting
-toldLeft d r vs bs = record { told = d .told; groups = d .groups; reply = r; values = vs; blocks = bs }
-
-abbrev pub lastingTold : Lasting → ToldLasting
-lastingTold x = record { told = toldOf (x .outcome); groups = x .groups; reply = x .reply; values = x .values; blocks = x .blocks }
-
-abbrev pub toldWith : Told → Groups → ToldDone
-toldWith t g = record { told = t; groups = g }
-
--- a function's result: the outcome, and the reply buffer
-pub record ToldReplied : Type 0 where
-  pub told : Told
-  pub reply : List ℕ
-
-abbrev pub toldReplied : Told → List ℕ → ToldReplied
-toldReplied t b = record { told = t; reply = b }
-
-abbrev pub repliedTold : Replied → ToldReplied
-repliedTold x = toldReplied (toldOf (x .outcome)) (x .reply)
-
 -- from C: an error byte counts only where the function failed
 abbrev pub ranFrom : (failed : Bool) → (error : ℕ) → Ran
 ranFrom true error = Failed error
 ranFrom false error = Gave
 
--- a board store and number to bytes: 0 or the refusal's number, and the bytes that were lent to be written
-pub record Numbered : Type 0 where
-  pub number : ℕ
-  pub bytes : List ℕ
-
-abbrev pub numbered : ℕ → List ℕ → Numbered
-numbered n b = record { number = n; bytes = b }
-
+-- a board store and number to bytes: 0 or the refusal's number
 abbrev pub storedNumber : Stored → ℕ
 storedNumber S.Done = 0
 storedNumber (S.Refused r) = refusalNumber r
 
-abbrev pub keptTold : Kept → Numbered
-keptTold x = numbered (storedNumber (x .stored)) (x .values)
-
 abbrev pub writingNumber : Writing → ℕ
 writingNumber W.Done = 0
 writingNumber (W.Refused r) = refusalNumber r
-
-abbrev pub wroteTold : Wrote → Numbered
-wroteTold x = numbered (writingNumber (x .answer)) (x .buffer)
 
 -- bytes to number: 0 and the number, or the refusal's number and 0
 pub record Numbers : Type 0 where
