@@ -33,6 +33,12 @@ bit-not true false h = refl
 bit-not false true h = refl
 bit-not false false h = absurd (omega (arith, h))
 
+pub bit-same : (a b : Bool) → bit a ≡ bit b → a ≡ b
+bit-same true true h = refl
+bit-same true false h = absurd (omega (arith, h))
+bit-same false true h = absurd (omega (arith, h))
+bit-same false false h = refl
+
 bit-or : (a b c : Bool) → bit a ≡ max (bit b) (bit c) → a ≡ (b || c)
 bit-or true true c h = refl
 bit-or true false true h = refl

@@ -5,10 +5,10 @@ use bsmp::VariableNumber;
 ghost use mathlib.Core.Path.{_≡_};
 ghost use mathlib.Core.Bool.{true, false, cond};
 ghost use mathlib.Core.List.{[], _∷_, map};
-ghost use Prim.Native.Nat.{_+_, _≤_, _<_};
+ghost use Prim.Native.Nat.{_+_, _%_, _^_, _≤_, _<_};
 ghost use lib.Dec.{eqb};
 ghost use lib.ListN.{length, drop};
-ghost use Rattle.bsmp.specs.Base.{cut};
+ghost use Rattle.bsmp.specs.Base.{cut, every, some};
 ghost use Rattle.bsmp.specs.Board.{marked};
 ghost use Rattle.bsmp.specs.Message.{changed, edited, told};
 ghost use Rattle.lists.specs.Put.{part};
@@ -54,6 +54,38 @@ pub fn group_writable(g: GroupNumber, all: bool) -> bool
         return true;
     }
     all
+}
+
+// The marks of the first `count` variables. With 64, which is too far to shift, each mark is one of theirs.
+pub fn declared(set: u64, count: usize) -> u64
+    requires { ⌜ count ≤ 64 ⌝ }
+    ensures { λ r. ⌜ r ≡ set % 2 ^ count ⌝ }
+{
+    if 64 <= count {
+        return set;
+    }
+    set % (1 << count)
+}
+
+// How many variables are marked.
+pub fn count_marks(set: u64) -> usize
+    ensures { λ r. ⌜ (r ≡ length (membersBelow set 64)) × (r ≤ 64) ⌝ }
+{
+    u64::count_ones(set) as usize
+}
+
+// Whether all members of a set are marked.
+pub fn all_marked(set: u64, marks: u64) -> bool
+    ensures { λ r. ⌜ r ≡ every (marked marks) (membersBelow set 64) ⌝ }
+{
+    set & marks == set
+}
+
+// Whether a member of a set is marked.
+pub fn some_marked(set: u64, marks: u64) -> bool
+    ensures { λ r. ⌜ r ≡ some (marked marks) (membersBelow set 64) ⌝ }
+{
+    set & marks != 0
 }
 
 // What a walk over a set finds: the bytes of all members, how many they are, whether all are writable, whether some is marked.
