@@ -1,20 +1,21 @@
--- The group that a payload names first, and what its members come to, as code has them at a return. Assumes nothing.
-use mathlib.Core.Path.{_≡_, sym, ap, _∙_}
-use mathlib.Core.Bool.{Bool, true, false, not}
+-- The group that a payload names first, and what the marks of its members tell, as code has them at a return. Assumes nothing.
+use mathlib.Core.Path.{_≡_, refl, sym, ap, _∙_}
+use mathlib.Core.Bool.{Bool, true, false, not, cond}
 use mathlib.Core.List.{List}
 use Prim.Native.Nat.{ℕ, _+_, _≤_, _<_}
 use native.Mathlib.Omega.{arith}
 use lib.Dec.{eqb, leb, ltb}
 use lib.ListN.{length}
 use borrow.Author.Tests.{ltb-true, ltb-false, leb-true, le-ltb, le-leb, eq-eqb, ne-eqb, not-true, not-false}
-use Rattle.bsmp.specs.Board.{Layout, members, groupBytes, groupHas, writableGroup, groupCount}
+use Rattle.bsmp.specs.Base.{every, some}
+use Rattle.bsmp.specs.Board.{Layout, marked, members, groupBytes, groupHas, writableGroup, groupCount}
 use Rattle.bsmp.specs.Message.{groupAt, noGroup, listed}
 use Rattle.bsmp.specs.declared.GroupNumber.{GroupNumber}
 use Rattle.bsmp.proofs.Bools.{bool-eq}
 use Rattle.parts.specs.Parts.{Answered}
 use Rattle.sets.specs.Promises.{GroupSet, Placed}
-use Rattle.sets.specs.declared.Survey.{Survey}
-use Rattle.groups.specs.Promises.{GroupKnown, GroupSurvey}
+use Rattle.sets.specs.Members.{membersBelow, setBytes}
+use Rattle.groups.specs.Promises.{GroupKnown, GroupMarks}
 
 pub leb-not : (a b : ℕ) → leb a b ≡ not (ltb b a)
 leb-not a b = bool-eq _ _ (λ e. rw (le-ltb b a (leb-true a b e))) (λ e. le-leb a b (ltb-false b a (not-true _ e)))
@@ -36,27 +37,33 @@ set-named w gs p g set e h = rw (← e) h
 pub named-below : (gs p : List ℕ) (g : GroupNumber) → g ≡ groupAt p 0 → GroupKnown gs p → g .0 < groupCount gs
 named-below gs p g e h = rw e (h .known)
 
--- what its members come to
-module _ (l : Layout) (gs : List ℕ) (g x : GroupNumber) (marks : ℕ) (s : Survey) (e : g ≡ x) (q : GroupSurvey l gs g marks s) where
-  pub bytes-same : (k n : ℕ) → k ≡ n + s .bytes → eqb k (n + groupBytes l gs x) ≡ true
-  bytes-same k n h = rw (← e, ← q .bytes) (eq-eqb k (n + s .bytes) h)
+-- what the marks of its members tell
+module _ (l : Layout) (gs : List ℕ) (g x : GroupNumber) (marks : ℕ) (e : g ≡ x) (q : GroupMarks l gs g marks) where
+  -- a payload's length against the bytes of all
+  module _ (k n b : ℕ) (h : b ≡ setBytes marks (l .sizes)) where
+    pub bytes-same : k ≡ n + b → eqb k (n + groupBytes l gs x) ≡ true
+    bytes-same d = rw (← e, ← q .bytes-are, ← h) (eq-eqb k (n + b) d)
 
-  pub bytes-other : (k n : ℕ) → (k ≡ n + s .bytes → ⊥) → eqb k (n + groupBytes l gs x) ≡ false
-  bytes-other k n h = rw (← e, ← q .bytes) (ne-eqb k (n + s .bytes) h)
+    pub bytes-other : (k ≡ n + b → ⊥) → eqb k (n + groupBytes l gs x) ≡ false
+    bytes-other d = rw (← e, ← q .bytes-are, ← h) (ne-eqb k (n + b) d)
 
-  pub writable-told : (b : Bool) → s .writable ≡ b → writableGroup l gs x ≡ b
-  writable-told b h = rw (← e) (sym (q .writes) ∙ h)
+  pub writable-told : (r b : Bool) → r ≡ cond (eqb (g .0) 1) false (cond (eqb (g .0) 2) true (every (marked (l .writable)) (membersBelow marks 64))) → r ≡ b
+      → writableGroup l gs x ≡ b
+  unfolding writableGroup
+  writable-told r b h t = rw (← e, ← q .members-are) (sym h ∙ t)
 
-  pub busy-told : (b : Bool) → s .marked ≡ b → groupHas marks l gs x ≡ b
-  busy-told b h = rw (← e) (sym (q .has) ∙ h)
+  pub busy-told : (busy : ℕ) (r b : Bool) → r ≡ some (marked busy) (membersBelow marks 64) → r ≡ b → groupHas busy l gs x ≡ b
+  unfolding groupHas
+  busy-told busy r b h t = rw (← e, ← q .members-are) (sym h ∙ t)
 
 -- its byte in the list
-module _ (l : Layout) (gs : List ℕ) (g : GroupNumber) (marks : ℕ) (s : Survey) (q : GroupSurvey l gs g marks s) where
-  pub listed-writable : s .writable ≡ true → 128 + s .count ≡ listed (writableGroup l gs g) (length (members l gs g))
-  listed-writable h = rw (← q .count, ← q .writes, h)
+module _ (l : Layout) (gs : List ℕ) (g : GroupNumber) (marks n : ℕ) (r : Bool) (q : GroupMarks l gs g marks) (c : n ≡ length (membersBelow marks 64))
+    (h : r ≡ cond (eqb (g .0) 1) false (cond (eqb (g .0) 2) true (every (marked (l .writable)) (membersBelow marks 64)))) where
+  pub listed-writable : r ≡ true → 128 + n ≡ listed (writableGroup l gs g) (length (members l gs g))
+  listed-writable t = rw (writable-told l gs g g marks refl q r true h t, ← q .members-are, ← c)
 
-  pub listed-other : s .writable ≡ false → s .count ≡ listed (writableGroup l gs g) (length (members l gs g))
-  listed-other h = rw (← q .count, ← q .writes, h) (omega arith)
+  pub listed-other : r ≡ false → n ≡ listed (writableGroup l gs g) (length (members l gs g))
+  listed-other f = rw (writable-told l gs g g marks refl q r false h f, ← q .members-are, ← c) (omega arith)
 
 -- what was put into the reply is an answer
 pub answered : (most : ℕ) → most ≤ 4099 → (v r : List ℕ) (at n : ℕ) (r′ : List ℕ) → Placed v most r at n r′ → Answered r at v n r′

@@ -1,4 +1,4 @@
--- What the commands of groups ask of a payload, and what their walks find. Assumes nothing.
+-- What the commands of groups ask of a payload, and what their walks and sets tell. Assumes nothing.
 use mathlib.Core.Path.{_≡_}
 use mathlib.Core.Bool.{not}
 use mathlib.Core.List.{List}
@@ -6,10 +6,10 @@ use Prim.Native.Nat.{ℕ, _+_, _≤_, _<_}
 use lib.Dec.{ltb}
 use lib.ListN.{length}
 use Rattle.bsmp.specs.Base.{some, ascending}
-use Rattle.bsmp.specs.Board.{Layout, members, groupBytes, groupHas, writableGroup, groupCount}
+use Rattle.bsmp.specs.Board.{Layout, members, groupBytes, groupCount}
 use Rattle.bsmp.specs.Message.{groupAt}
 use Rattle.bsmp.specs.declared.GroupNumber.{GroupNumber}
-use Rattle.sets.specs.declared.Survey.{Survey}
+use Rattle.sets.specs.Members.{membersBelow, setBytes}
 use Rattle.groups.specs.declared.Ids.{Ids}
 
 -- a group that exists is named first
@@ -24,14 +24,10 @@ pub record GroupFits (l : Layout) (gs p : List ℕ) (n : ℕ) : Type 0 where
   pub known : groupAt p 0 .0 < groupCount gs
   pub whole : length p ≡ n + groupBytes l gs (groupAt p 0)
 
--- what a walk over a group's members finds, and whether the group is writable
-pub record GroupSurvey (l : Layout) (gs : List ℕ) (g : GroupNumber) (marks : ℕ) (s : Survey) : Type 0 where
-  pub bytes : s .bytes ≡ groupBytes l gs g
-  pub count : s .count ≡ length (members l gs g)
-  pub writes : s .writable ≡ writableGroup l gs g
-  pub has : s .marked ≡ groupHas marks l gs g
-  pub small : s .bytes ≤ 16320
-  pub few : s .count ≤ 64
+-- marks of a group's members, and no others
+pub record GroupMarks (l : Layout) (gs : List ℕ) (g : GroupNumber) (marks : ℕ) : Type 0 where
+  pub members-are : membersBelow marks 64 ≡ members l gs g
+  pub bytes-are : setBytes marks (l .sizes) ≡ groupBytes l gs g
 
 -- the IDs looked through, on a board with so many variables
 pub record Looked (ids : List ℕ) (count : ℕ) (r : Ids) : Type 0 where

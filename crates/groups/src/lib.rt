@@ -4,7 +4,6 @@ use bsmp::Check;
 use bsmp::GroupNumber;
 use bsmp::Operation;
 use bsmp::WireError;
-use sets::Survey;
 ghost use mathlib.Core.Path.{_≡_};
 ghost use mathlib.Core.List.{[], _∷_, map};
 ghost use Prim.Native.Nat.{_+_, _≤_, _<_};
@@ -16,7 +15,7 @@ ghost use Rattle.bsmp.specs.declared.Check.the-variants.{Pass, Fail};
 ghost use Rattle.bsmp.specs.declared.Command.the-variants.{ShowGroup, ReadGroup, WriteGroup, MaskGroup, MakeGroup};
 ghost use Rattle.parts.specs.Parts.{variablesOnly, Answered};
 ghost use Rattle.sets.specs.Promises.{Sound, GroupSet};
-ghost use Rattle.groups.specs.Promises.{GroupKnown, GroupFits, GroupSurvey, Looked};
+ghost use Rattle.groups.specs.Promises.{GroupKnown, GroupFits, GroupMarks, Looked};
 
 // Whether the group named first doesn't exist: three always do.
 fn no_group(groups: &[u64], payload: &[u8]) -> bool
@@ -41,19 +40,13 @@ fn names(groups: &[u64], payload: &[u8]) -> Check
     Check::Pass
 }
 
-// What a group's members come to, by one walk over them, and whether the group is writable.
-fn survey(sizes: &[u8], writable: u64, groups: &[u64], g: GroupNumber, marks: u64) -> Survey
+// The marks of a group's members, and no others.
+fn group_marks(sizes: &[u8], writable: u64, groups: &[u64], g: GroupNumber) -> u64
     requires { ⌜ (length (now sizes) ≤ 64) × (g .0 < groupCount (now groups)) ⌝ }
-    ensures { λ r. ⌜ GroupSurvey (variablesOnly (now (sizes .entry)) writable) (now (groups .entry)) g marks r ⌝ }
+    ensures { λ r. ⌜ GroupMarks (variablesOnly (now (sizes .entry)) writable) (now (groups .entry)) g r ⌝ }
 {
     let set = sets::group_set(writable, groups, g);
-    let s = Survey::of(sizes, set, writable, marks);
-    Survey {
-        bytes: s.bytes,
-        count: s.count,
-        writable: sets::group_writable(g, s.writable),
-        marked: s.marked,
-    }
+    sets::declared(set, sizes.len())
 }
 
 // The tests that a write of the group named first must pass after the front.
@@ -70,12 +63,13 @@ fn writes(
     ensures { λ r. ⌜ r ≡ first (writesGroup (variablesOnly (now (sizes .entry)) writable) (now (groups .entry)) (now (payload .entry)) front
         (busyGroup (variablesOnly (now (sizes .entry)) writable) (now (groups .entry)) (now (payload .entry)) busy)) Fail Pass ⌝ }
 {
-    let s = survey(sizes, writable, groups, parts::group_at(payload, 0), busy);
-    if payload.len() != front + s.bytes {
+    let g = parts::group_at(payload, 0);
+    let members = group_marks(sizes, writable, groups, g);
+    if payload.len() != front + sets::set_bytes(sizes, members) {
         return Check::Fail(WireError::BadSize);
     }
-    if s.writable {
-        if s.marked {
+    if sets::group_writable(g, members, writable) {
+        if sets::some_marked(members, busy) {
             return Check::Fail(WireError::Busy);
         }
         return Check::Pass;
@@ -264,11 +258,12 @@ fn list_byte(sizes: &[u8], writable: u64, groups: &[u64], g: GroupNumber) -> u8
     ensures { λ r. ⌜ r ≡ listed (writableGroup (variablesOnly (now (sizes .entry)) writable) (now (groups .entry)) g)
         (length (members (variablesOnly (now (sizes .entry)) writable) (now (groups .entry)) g)) ⌝ }
 {
-    let s = survey(sizes, writable, groups, g, 0);
-    if s.writable {
-        return 128 + s.count as u8;
+    let members = group_marks(sizes, writable, groups, g);
+    let count = sets::count_marks(members);
+    if sets::group_writable(g, members, writable) {
+        return 128 + count as u8;
     }
-    s.count as u8
+    count as u8
 }
 
 // 05: a byte per group.

@@ -2,21 +2,22 @@
 use mathlib.Core.Path.{_≡_, refl, sym, ap, ap₂, _∙_}
 use mathlib.Core.Bool.{Bool, true, false, not, cond}
 use mathlib.Core.List.{List, _∷_, map}
-use Prim.Native.Nat.{ℕ, zero, suc, _+_, _-_, _^_, _≤_, _<_}
+use Prim.Native.Nat.{ℕ, zero, suc, _+_, _-_, _%_, _^_, _≤_, _<_}
 use native.Mathlib.Omega.{arith}
+use native.Mathlib.Nat.{le-refl}
 use lib.Dec.{eqb}
 use borrow.Author.Tests.{eq-eqb, ne-eqb}
 use lib.ListN.{length, getD}
-use Rattle.bsmp.specs.Base.{upFrom, every, some, only, cut}
-use Rattle.bsmp.specs.Board.{Layout, variable, sizeOf, marked, inGroup, members, groupBytes, groupHas, writableGroup}
+use Rattle.bsmp.specs.Base.{sum, upFrom, only, cut}
+use Rattle.bsmp.specs.Board.{Layout, variable, sizeOf, marked, inGroup, members, groupBytes}
 use Rattle.bsmp.specs.Message.{edited, told}
 use Rattle.bsmp.specs.declared.Operation.{Operation}
 use Rattle.bsmp.specs.declared.VariableNumber.{VariableNumber}
 use Rattle.bsmp.specs.declared.GroupNumber.{GroupNumber}
 use Rattle.sets.specs.Members.{membersBelow, membersOf, sizeAt, setBytes, groupSet}
-use Rattle.sets.specs.Promises.{GroupSet, Surveyed, Placed}
-use Rattle.sets.specs.declared.Survey.{Survey}
+use Rattle.sets.specs.Promises.{GroupSet, Placed}
 use Rattle.sets.proofs.Marks.{has-not, has-none}
+use Rattle.sets.proofs.AtOnce.{below-declared}
 
 -- tests that agree on all variables below a number choose the same of them
 only-same : (f h : VariableNumber → Bool) (i n : ℕ) → ((k : ℕ) → k < i + n → f (variable k) ≡ h (variable k))
@@ -55,6 +56,10 @@ module _ (w : ℕ) (gs : List ℕ) (g : GroupNumber) where
       let c : eqb (g .0) 2 ≡ false = ne-eqb (g .0) 2 t in
       group-is w gs g (getD gs (g .0 - 3) 0) (rw (a, b, c)) (λ k h. rw (a, b, c))
 
+-- a group that is neither 1 nor 2 is writable as its members are
+pub writable-made : (n : ℕ) (a b : Bool) → (n ≡ 1 → ⊥) → (n ≡ 2 → ⊥) → a ≡ b → a ≡ cond (eqb n 1) false (cond (eqb n 2) true b)
+writable-made n a b o t e = rw (ne-eqb n 1 o, ne-eqb n 2 t) e
+
 -- what callers have of a group's set, on a board with these sizes and writable variables
 module _ (l : Layout) (gs : List ℕ) (g : GroupNumber) (ns : List ℕ) (w set : ℕ) (e : l .sizes ≡ ns) (f : l .writable ≡ w) (few : length ns ≤ 64) (h : GroupSet w gs g set) where
   pub group-members : members l gs g ≡ membersOf set ns
@@ -64,31 +69,16 @@ module _ (l : Layout) (gs : List ℕ) (g : GroupNumber) (ns : List ℕ) (w set :
   unfolding setBytes groupBytes
   group-fits = rw (group-members, e)
 
-  -- of a survey
-  module _ (b : ℕ) (s : Survey) (q : Surveyed ns set w b s) where
-    pub group-bytes : s .bytes ≡ groupBytes l gs g
-    group-bytes = q .bytes ∙ group-fits
+  -- of its marks that are those of declared variables
+  module _ (marks : ℕ) (d : marks ≡ set % 2 ^ length ns) where
+    pub group-marks : membersBelow marks 64 ≡ members l gs g
+    group-marks = ap (λ (x : ℕ). membersBelow x 64) d ∙ below-declared set (length ns) 64 few ∙ sym group-members
 
-    pub group-count : s .count ≡ length (members l gs g)
-    group-count = q .count ∙ ap length (sym group-members)
-
-    pub group-has : s .marked ≡ groupHas b l gs g
-    unfolding groupHas
-    group-has = q .marked ∙ ap (some (marked b)) (sym group-members)
-
-    pub group-writes : (r : Bool) → r ≡ cond (eqb (g .0) 1) false (cond (eqb (g .0) 2) true (s .writable)) → r ≡ writableGroup l gs g
-    unfolding writableGroup
-    group-writes r o =
-        let a : s .writable ≡ every (marked (l .writable)) (members l gs g) =
-        q .writable ∙ ap₂ (λ (x : ℕ) (is : List VariableNumber). every (marked x) is) (sym f) (sym group-members) in
-        o ∙ ap (λ (x : Bool). cond (eqb (g .0) 1) false (cond (eqb (g .0) 2) true x)) a
-
-    -- a payload's length against the bytes of all members
-    pub group-same : (k n : ℕ) → k ≡ n + s .bytes → eqb k (n + groupBytes l gs g) ≡ true
-    group-same k n d = rw (← group-bytes) (eq-eqb k (n + s .bytes) d)
-
-    pub group-other : (k n : ℕ) → (k ≡ n + s .bytes → ⊥) → eqb k (n + groupBytes l gs g) ≡ false
-    group-other k n d = rw (← group-bytes) (ne-eqb k (n + s .bytes) d)
+    pub group-bytes : setBytes marks ns ≡ groupBytes l gs g
+    unfolding setBytes
+    group-bytes =
+        ap (λ (x : ℕ). setBytes x ns) d ∙ ap (λ (is : List VariableNumber). sum (map (sizeAt ns) is)) (below-declared set (length ns) (length ns) (le-refl (length ns)))
+        ∙ group-fits
 
   -- a payload that is long enough for a change, and what was changed, read or listed
   pub group-room : (k n : ℕ) → k ≡ n + groupBytes l gs g → n + setBytes set ns ≤ k

@@ -17,8 +17,7 @@ use Rattle.lists.proofs.Put.{put-nil, put-put, length-put, length-part}
 use Rattle.lists.proofs.Sum.{total-within, total-take, total-drop}
 use Rattle.lists.proofs.Pieces.{value-part, cut-change}
 use Rattle.sets.specs.Members.{membersBelow, membersOf, sizeAt, setBytes}
-use Rattle.sets.specs.Promises.{Sound, Surveyed, added, Placed, Turned}
-use Rattle.sets.specs.declared.Survey.{Survey}
+use Rattle.sets.specs.Promises.{Sound, Placed, Turned}
 use Rattle.sets.proofs.Members.{membersFrom, from-next, from-end, from-all}
 
 -- what a turn leaves, as its two branches have it; h is the code's answer to whether the variable is a member
@@ -195,73 +194,41 @@ module _ (op : Operation) (ns p : List ℕ) (m front : ℕ) (s₀ : List ℕ) wh
       let w : Changing op ns p (membersOf m ns) front s₀ [] s f = rw (from-end m (length ns) i h) at q in
       w .done
 
--- a survey, and what is left to look at
-module _ (ns : List ℕ) (w b : ℕ) (all : List VariableNumber) where
-  pub record Surveying (rest : List VariableNumber) (i : ℕ) (s : Survey) : Type 0 where
-    pub bytes : s .bytes + sum (map (sizeAt ns) rest) ≡ sum (map (sizeAt ns) all)
-    pub count : s .count + length rest ≡ length all
-    pub writable : (s .writable && every (marked w) rest) ≡ every (marked w) all
-    pub marks : (s .marked || some (marked b) rest) ≡ some (marked b) all
-    pub small : s .bytes ≤ 255 * i
-    pub few : s .count ≤ i
+-- a variable's bytes, as the two branches have them
+module _ (h b : Bool) (n : ℕ) (e : h ≡ b) where
+  pub bytes-yes : h ≡ true → n ≡ cond b n 0
+  bytes-yes t = rw (← e, t)
 
-  survey-step : (member : Bool) (j : VariableNumber) (rest : List VariableNumber) (i : ℕ) (s s′ : Survey) → sizeAt ns j < 256
-      → s′ ≡ cond member (added w b s j (sizeAt ns j)) s → Surveying (cond member (j ∷ rest) rest) i s → Surveying rest (i + 1) s′
-  unfolding sum added
-  survey-step true j rest i s s′ l e q = rw e (record {
-    bytes = omega (arith, q .bytes);
-    count = omega (arith, q .count);
-    writable = and-assoc (s .writable) (marked w j) (every (marked w) rest) ∙ q .writable;
-    marks = or-assoc (s .marked) (marked b j) (some (marked b) rest) ∙ q .marks;
-    small = omega (arith, q .small);
-    few = omega (arith, q .few);
-  })
-  survey-step false j rest i s s′ l e q = rw e (record {
-    bytes = q .bytes;
-    count = q .count;
-    writable = q .writable;
-    marks = q .marks;
-    small = omega (arith, q .small);
-    few = omega (arith, q .few);
-  })
+  pub bytes-no : h ≡ false → 0 ≡ cond b n 0
+  bytes-no f = rw (← e, f)
 
-pub added-yes : (h x y : Bool) (m w b : ℕ) (s : Survey) (i : VariableNumber) (n : ℕ) → h ≡ marked m i → h ≡ true → x ≡ marked w i → y ≡ marked b i
-    → _≡_ {A = Survey} (record { bytes = s .bytes + n; count = s .count + 1; writable = s .writable && x; marked = s .marked || y }) (cond (marked m i) (added w b s i n) s)
-unfolding added
-added-yes h x y m w b s i n e t p q = rw (← e, t, p, q)
+-- the bytes of the members, and of those that are left
+module _ (ns : List ℕ) (m : ℕ) where
+  abbrev bytesOf : List VariableNumber → ℕ
+  bytesOf is = sum (map (sizeAt ns) is)
 
-pub added-no : (h : Bool) (m w b : ℕ) (s : Survey) (i : VariableNumber) (n : ℕ) → h ≡ marked m i → h ≡ false → s ≡ cond (marked m i) (added w b s i n) s
-added-no h m w b s i n e f = rw (← e, f)
+  pub record Adding (i b : ℕ) : Type 0 where
+    pub left : b + bytesOf (membersFrom m (length ns) i) ≡ setBytes m ns
+    pub small : b ≤ 255 * i
 
-module _ (ns : List ℕ) (m w b : ℕ) where
-  pub survey-start : (s : Survey) → s .bytes ≡ 0 → s .count ≡ 0 → s .writable ≡ true → s .marked ≡ false
-      → Surveying ns w b (membersOf m ns) (membersFrom m (length ns) 0) 0 s
-  survey-start s y c t f = rw (from-all m (length ns)) (record {
-    bytes = omega arith;
-    count = omega arith;
-    writable = ap (_&& every (marked w) (membersOf m ns)) t;
-    marks = ap (_|| some (marked b) (membersOf m ns)) f;
-    small = omega arith;
-    few = omega arith;
-  })
+  pub add-start : Adding 0 0
+  unfolding setBytes
+  add-start = record { left = omega (arith, ap bytesOf (from-all m (length ns))); small = omega arith }
 
-  pub survey-next : (i : ℕ) (s s′ : Survey) → i < length ns → getD ns i 0 < 256
-      → s′ ≡ cond (marked m (variable i)) (added w b s (variable i) (getD ns i 0)) s
-      → Surveying ns w b (membersOf m ns) (membersFrom m (length ns) i) i s → Surveying ns w b (membersOf m ns) (membersFrom m (length ns) (i + 1)) (i + 1) s′
-  survey-next i s s′ h l e q =
-      survey-step ns w b (membersOf m ns) (marked m (variable i)) (variable i) (membersFrom m (length ns) (i + 1)) i s s′ l e
-      (rw (from-next m (length ns) i h) at q)
+  add-step : (b : Bool) (j : VariableNumber) (rest : List VariableNumber) → bytesOf (cond b (j ∷ rest) rest) ≡ cond b (sizeAt ns j) 0 + bytesOf rest
+  unfolding sum
+  add-step true j rest = refl
+  add-step false j rest = omega arith
 
-  pub survey-end : (i : ℕ) (s : Survey) → length ns ≤ 64 → length ns ≤ i → i ≤ length ns → Surveying ns w b (membersOf m ns) (membersFrom m (length ns) i) i s
-      → Surveyed ns m w b s
-  unfolding setBytes sum
-  survey-end i s k h o q =
-      let v : Surveying ns w b (membersOf m ns) [] i s = rw (from-end m (length ns) i h) at q in
-      record {
-        bytes = omega (arith, v .bytes);
-        count = omega (arith, v .count);
-        writable = sym (and-true (s .writable)) ∙ v .writable;
-        marked = sym (or-false (s .marked)) ∙ v .marks;
-        small = omega (arith, v .small);
-        few = omega (arith, v .few);
-      }
+  pub add-next : (i b x : ℕ) → i < length ns → x ≡ cond (marked m (variable i)) (getD ns i 0) 0 → x ≤ 255 → Adding i b → Adding (i + 1) (b + x)
+  add-next i b x h e l q =
+      let s = ap bytesOf (from-next m (length ns) i h) ∙ add-step (marked m (variable i)) (variable i) (membersFrom m (length ns) (i + 1)) in
+      record { left = omega (arith, q .left, s, e); small = omega (arith, q .small) }
+
+  module _ (i b : ℕ) (q : Adding i b) where
+    pub add-end : length ns ≤ i → b ≡ setBytes m ns
+    unfolding sum
+    add-end h = omega (arith, q .left, ap bytesOf (from-end m (length ns) i h))
+
+    pub add-small : length ns ≤ 64 → i ≤ length ns → b ≤ 16320
+    add-small k o = omega (arith, q .small)

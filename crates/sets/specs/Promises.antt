@@ -1,16 +1,15 @@
 -- What the walks over a set ask for, and what they promise. Assumes nothing.
 use mathlib.Core.Path.{_≡_}
-use mathlib.Core.Bool.{Bool, cond, _&&_, _||_}
+use mathlib.Core.Bool.{Bool, cond}
 use mathlib.Core.List.{List, map}
 use Prim.Native.Nat.{ℕ, _+_, _≤_, _<_}
 use lib.ListN.{length, getD}
-use Rattle.bsmp.specs.Base.{sum, every, some}
-use Rattle.bsmp.specs.Board.{Layout, variable, marked, members, setOf}
+use Rattle.bsmp.specs.Base.{sum}
+use Rattle.bsmp.specs.Board.{Layout, variable, members, setOf}
 use Rattle.bsmp.specs.declared.VariableNumber.{VariableNumber}
 use Rattle.bsmp.specs.declared.GroupNumber.{GroupNumber}
 use Rattle.lists.specs.Put.{put}
-use Rattle.sets.specs.Members.{membersOf, setBytes, groupSet}
-use Rattle.sets.specs.declared.Survey.{Survey}
+use Rattle.sets.specs.Members.{membersOf, groupSet}
 
 -- few variables, and a store of exactly the length that their sizes add up to
 pub record Sound (sizes store : List ℕ) : Type 0 where
@@ -30,24 +29,6 @@ pub record Named (ids : List ℕ) (set : ℕ) : Type 0 where
 pub record GroupSet (writable : ℕ) (groups : List ℕ) (g : GroupNumber) (set : ℕ) : Type 0 where
   pub is : set ≡ groupSet writable groups g
   pub members-are : (l : Layout) → l .writable ≡ writable → length (l .sizes) ≤ 64 → members l groups g ≡ membersOf set (l .sizes)
-
--- what a survey of a set finds
-pub record Surveyed (sizes : List ℕ) (set w marks : ℕ) (s : Survey) : Type 0 where
-  pub bytes : s .bytes ≡ setBytes set sizes
-  pub count : s .count ≡ length (membersOf set sizes)
-  pub writable : s .writable ≡ every (marked w) (membersOf set sizes)
-  pub marked : s .marked ≡ some (marked marks) (membersOf set sizes)
-  pub small : s .bytes ≤ 16320
-  pub few : s .count ≤ 64
-
--- a survey with one more variable, of n bytes
-unfoldable pub added : (writable marks : ℕ) → Survey → VariableNumber → (n : ℕ) → Survey
-added w b s i n = record {
-  bytes = s .bytes + n;
-  count = s .count + 1;
-  writable = s .writable && marked w i;
-  marked = s .marked || marked b i;
-}
 
 -- n bytes, at most so many, were put into the reply from a place on, and no others
 pub record Placed (payload : List ℕ) (most : ℕ) (reply : List ℕ) (at n : ℕ) (reply′ : List ℕ) : Type 0 where

@@ -13,7 +13,7 @@ ghost use Rattle.bsmp.specs.Board.{marked};
 ghost use Rattle.bsmp.specs.Message.{changed, edited, told};
 ghost use Rattle.lists.specs.Put.{part};
 ghost use Rattle.sets.specs.Members.{membersOf, membersBelow, sizeAt, setBytes};
-ghost use Rattle.sets.specs.Promises.{Sound, Below, Named, GroupSet, Surveyed, added, Placed, Turned};
+ghost use Rattle.sets.specs.Promises.{Sound, Below, Named, GroupSet, Placed, Turned};
 
 // Whether variable i is marked.
 pub fn is_marked(marks: u64, i: VariableNumber) -> bool
@@ -40,20 +40,6 @@ pub fn group_set(writable: u64, groups: &[u64], g: GroupNumber) -> u64
         return writable;
     }
     groups[n - 3]
-}
-
-// Whether a group is writable, told whether all its members are: 1 and 2 are what they are even if empty.
-pub fn group_writable(g: GroupNumber, all: bool) -> bool
-    ensures { λ r. ⌜ r ≡ cond (eqb (g .0) 1) false (cond (eqb (g .0) 2) true all) ⌝ }
-{
-    let n = g.0;
-    if n == 1 {
-        return false;
-    }
-    if n == 2 {
-        return true;
-    }
-    all
 }
 
 // The marks of the first `count` variables. With 64, which is too far to shift, each mark is one of theirs.
@@ -88,49 +74,43 @@ pub fn some_marked(set: u64, marks: u64) -> bool
     set & marks != 0
 }
 
-// What a walk over a set finds: the bytes of all members, how many they are, whether all are writable, whether some is marked.
-pub struct Survey {
-    pub bytes: usize,
-    pub count: usize,
-    pub writable: bool,
-    pub marked: bool,
+// Whether a group is writable: 1 and 2 are what they are even if empty, another is if all its members are.
+pub fn group_writable(g: GroupNumber, set: u64, writable: u64) -> bool
+    ensures { λ r. ⌜ r ≡ cond (eqb (g .0) 1) false (cond (eqb (g .0) 2) true (every (marked writable) (membersBelow set 64))) ⌝ }
+{
+    let n = g.0;
+    if n == 1 {
+        return false;
+    }
+    if n == 2 {
+        return true;
+    }
+    all_marked(set, writable)
 }
 
-impl Survey {
-    // The survey with variable i, of n bytes, if it's a member.
-    fn turn(self, set: u64, i: VariableNumber, n: u8, writable: u64, marks: u64) -> Survey
-        requires { ⌜ (i .0 < 64) × (self .bytes ≤ 16320) × (self .count ≤ 64) ⌝ }
-        ensures { λ r. ⌜ r ≡ cond (marked set i) (added writable marks self i n) self ⌝ }
-    {
-        if is_marked(set, i) {
-            return Survey {
-                bytes: self.bytes + n as usize,
-                count: self.count + 1,
-                writable: self.writable & is_marked(writable, i),
-                marked: self.marked | is_marked(marks, i),
-            };
-        }
-        self
+// The n bytes of variable i, if it's a member.
+fn bytes_turn(set: u64, i: VariableNumber, n: u8) -> usize
+    requires { ⌜ i .0 < 64 ⌝ }
+    ensures { λ r. ⌜ (r ≡ cond (marked set i) n 0) × (r ≤ 255) ⌝ }
+{
+    if is_marked(set, i) {
+        return n as usize;
     }
+    0
+}
 
-    // One walk finds all four.
-    pub fn of(sizes: &[u8], set: u64, writable: u64, marks: u64) -> Survey
-        requires { ⌜ length (now sizes) ≤ 64 ⌝ }
-        ensures { λ r. ⌜ Surveyed (now (sizes .entry)) set writable marks r ⌝ }
-    {
-        let mut s = Survey {
-            bytes: 0,
-            count: 0,
-            writable: true,
-            marked: false,
-        };
-        let mut i = 0;
-        while i < sizes.len() {
-            s = s.turn(set, VariableNumber(i), sizes[i], writable, marks);
-            i += 1;
-        }
-        s
+// The bytes of all members.
+pub fn set_bytes(sizes: &[u8], set: u64) -> usize
+    requires { ⌜ length (now sizes) ≤ 64 ⌝ }
+    ensures { λ r. ⌜ (r ≡ setBytes set (now (sizes .entry))) × (r ≤ 16320) ⌝ }
+{
+    let mut bytes: usize = 0;
+    let mut i = 0;
+    while i < sizes.len() {
+        bytes += bytes_turn(set, VariableNumber(i), sizes[i]);
+        i += 1;
     }
+    bytes
 }
 
 // The n bytes of variable i into the reply, if it's a member; answers the next place there.

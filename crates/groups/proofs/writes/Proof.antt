@@ -11,8 +11,8 @@ pub writes-spec : {M : Type 1} → statement M
 unfolding writesGroup
 writes-spec =
     tie.close
-    (tie.spec (λ c κs. search needs) (λ c κs. (search needs, search (named-below, needs))) (λ c. search needs)
-    (λ c. search (first-stop, not-on, bytes-other, needs) depth 5)
+    (tie.spec (λ c κs. search needs) (λ c κs. (search needs, search (named-below, needs))) (λ c κs. search needs) (λ c. search needs)
+    (λ c. search (first-stop, not-on, bytes-other, needs) depth 5) (λ c κs. search needs) (λ c κs. search needs)
     (λ c. search (first-next, first-stop, not-off, bytes-same, writable-told, busy-told, needs) depth 7)
     (λ c. search (first-next, first-end, not-off, bytes-same, writable-told, busy-told, needs) depth 7)
     (λ c. search (first-next, first-stop, not-on, not-off, bytes-same, writable-told, needs) depth 6))
