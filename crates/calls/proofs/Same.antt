@@ -8,7 +8,7 @@ use lib.IntN.{ℤ, pos}
 use lib.ListN.{length}
 use Rattle.bsmp.specs.Board.{Table, layout, blockSizes, usable, usableVariables}
 use Rattle.bsmp.specs.Packet.{Result, refuse, packet, functionResult, boardStore}
-use Rattle.bsmp.specs.Number.{reading, writing}
+use Rattle.bsmp.specs.Number.{Reading, Written, reading, writing}
 use Rattle.bsmp.specs.declared.Variable.{Variable}
 use Rattle.bsmp.specs.declared.VariableNumber.{VariableNumber}
 use Rattle.bsmp.specs.declared.FunctionNumber.{FunctionNumber}
