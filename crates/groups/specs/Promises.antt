@@ -1,4 +1,4 @@
--- What the commands of groups ask of a payload, and what their walks and sets tell. Assumes nothing.
+-- What the commands of groups ask of a payload, and what a walk over new IDs finds. Assumes nothing.
 use mathlib.Core.Path.{_≡_}
 use mathlib.Core.Bool.{not}
 use mathlib.Core.List.{List}
@@ -6,10 +6,8 @@ use Prim.Native.Nat.{ℕ, _+_, _≤_, _<_}
 use lib.Dec.{ltb}
 use lib.ListN.{length}
 use Rattle.bsmp.specs.Base.{some, ascending}
-use Rattle.bsmp.specs.Board.{Layout, members, groupBytes, groupCount}
+use Rattle.bsmp.specs.Board.{Layout, groupBytes, groupCount}
 use Rattle.bsmp.specs.Message.{groupAt}
-use Rattle.bsmp.specs.declared.GroupNumber.{GroupNumber}
-use Rattle.sets.specs.Members.{membersBelow, setBytes}
 use Rattle.groups.specs.declared.Ids.{Ids}
 
 -- a group that exists is named first
@@ -23,11 +21,6 @@ pub record GroupFits (l : Layout) (gs p : List ℕ) (n : ℕ) : Type 0 where
   pub front : n ≤ length p
   pub known : groupAt p 0 .0 < groupCount gs
   pub whole : length p ≡ n + groupBytes l gs (groupAt p 0)
-
--- marks of a group's members, and no others
-pub record GroupMarks (l : Layout) (gs : List ℕ) (g : GroupNumber) (marks : ℕ) : Type 0 where
-  pub members-are : membersBelow marks 64 ≡ members l gs g
-  pub bytes-are : setBytes marks (l .sizes) ≡ groupBytes l gs g
 
 -- the IDs looked through, on a board with so many variables
 pub record Looked (ids : List ℕ) (count : ℕ) (r : Ids) : Type 0 where

@@ -15,7 +15,7 @@ ghost use Rattle.bsmp.specs.declared.Check.the-variants.{Pass, Fail};
 ghost use Rattle.bsmp.specs.declared.Command.the-variants.{ShowGroup, ReadGroup, WriteGroup, MaskGroup, MakeGroup};
 ghost use Rattle.parts.specs.Parts.{variablesOnly, Answered};
 ghost use Rattle.sets.specs.Promises.{Sound, GroupSet};
-ghost use Rattle.groups.specs.Promises.{GroupKnown, GroupFits, GroupMarks, Looked};
+ghost use Rattle.groups.specs.Promises.{GroupKnown, GroupFits, Looked};
 
 // Whether the group named first doesn't exist: three always do.
 fn no_group(groups: &[u64], payload: &[u8]) -> bool
@@ -40,13 +40,12 @@ fn names(groups: &[u64], payload: &[u8]) -> Check
     Check::Pass
 }
 
-// The marks of a group's members, and no others.
-fn group_marks(sizes: &[u8], writable: u64, groups: &[u64], g: GroupNumber) -> u64
-    requires { ⌜ (length (now sizes) ≤ 64) × (g .0 < groupCount (now groups)) ⌝ }
-    ensures { λ r. ⌜ GroupMarks (variablesOnly (now (sizes .entry)) writable) (now (groups .entry)) g r ⌝ }
+// The set of the group named first.
+fn named_set(writable: u64, groups: &[u64], payload: &[u8]) -> u64
+    requires { ⌜ GroupKnown (now groups) (now payload) ⌝ }
+    ensures { λ r. ⌜ GroupSet writable (now (groups .entry)) (groupAt (now (payload .entry)) 0) r ⌝ }
 {
-    let set = sets::group_set(writable, groups, g);
-    sets::declared(set, sizes.len())
+    sets::group_set(writable, groups, parts::group_at(payload, 0))
 }
 
 // The tests that a write of the group named first must pass after the front.
@@ -63,12 +62,12 @@ fn writes(
     ensures { λ r. ⌜ r ≡ first (writesGroup (variablesOnly (now (sizes .entry)) writable) (now (groups .entry)) (now (payload .entry)) front
         (busyGroup (variablesOnly (now (sizes .entry)) writable) (now (groups .entry)) (now (payload .entry)) busy)) Fail Pass ⌝ }
 {
-    let g = parts::group_at(payload, 0);
-    let members = group_marks(sizes, writable, groups, g);
-    if payload.len() != front + sets::set_bytes(sizes, members) {
+    let set = named_set(writable, groups, payload);
+    if payload.len() != front + sets::set_bytes(sizes, set) {
         return Check::Fail(WireError::BadSize);
     }
-    if sets::group_writable(g, members, writable) {
+    let members = sets::declared(set, sizes.len());
+    if sets::group_writable(parts::group_at(payload, 0), members, writable) {
         if sets::some_marked(members, busy) {
             return Check::Fail(WireError::Busy);
         }
@@ -179,14 +178,6 @@ pub fn check_make(sizes: &[u8], writable: u64, groups: &[u64], payload: &[u8], b
     Check::Fail(WireError::BadValue)
 }
 
-// The set of the group named first.
-fn named_set(writable: u64, groups: &[u64], payload: &[u8]) -> u64
-    requires { ⌜ GroupKnown (now groups) (now payload) ⌝ }
-    ensures { λ r. ⌜ GroupSet writable (now (groups .entry)) (groupAt (now (payload .entry)) 0) r ⌝ }
-{
-    sets::group_set(writable, groups, parts::group_at(payload, 0))
-}
-
 // 22 and 26: each member of the group named first, changed by its part of the payload after the front.
 pub fn change(
     sizes: &[u8],
@@ -258,7 +249,8 @@ fn list_byte(sizes: &[u8], writable: u64, groups: &[u64], g: GroupNumber) -> u8
     ensures { λ r. ⌜ r ≡ listed (writableGroup (variablesOnly (now (sizes .entry)) writable) (now (groups .entry)) g)
         (length (members (variablesOnly (now (sizes .entry)) writable) (now (groups .entry)) g)) ⌝ }
 {
-    let members = group_marks(sizes, writable, groups, g);
+    let set = sets::group_set(writable, groups, g);
+    let members = sets::declared(set, sizes.len());
     let count = sets::count_marks(members);
     if sets::group_writable(g, members, writable) {
         return 128 + count as u8;

@@ -4,11 +4,10 @@ use mathlib.Core.Bool.{Bool, true, false, not, cond}
 use mathlib.Core.List.{List, _∷_, map}
 use Prim.Native.Nat.{ℕ, zero, suc, _+_, _-_, _%_, _^_, _≤_, _<_}
 use native.Mathlib.Omega.{arith}
-use native.Mathlib.Nat.{le-refl}
 use lib.Dec.{eqb}
-use borrow.Author.Tests.{eq-eqb, ne-eqb}
+use borrow.Author.Tests.{ne-eqb}
 use lib.ListN.{length, getD}
-use Rattle.bsmp.specs.Base.{sum, upFrom, only, cut}
+use Rattle.bsmp.specs.Base.{upFrom, only, cut}
 use Rattle.bsmp.specs.Board.{Layout, variable, sizeOf, marked, inGroup, members, groupBytes}
 use Rattle.bsmp.specs.Message.{edited, told}
 use Rattle.bsmp.specs.declared.Operation.{Operation}
@@ -65,20 +64,13 @@ module _ (l : Layout) (gs : List ℕ) (g : GroupNumber) (ns : List ℕ) (w set :
   pub group-members : members l gs g ≡ membersOf set ns
   group-members = h .members-are l f (rw e few) ∙ ap (membersOf set) e
 
-  group-fits : setBytes set ns ≡ groupBytes l gs g
+  pub group-fits : setBytes set ns ≡ groupBytes l gs g
   unfolding setBytes groupBytes
   group-fits = rw (group-members, e)
 
-  -- of its marks that are those of declared variables
-  module _ (marks : ℕ) (d : marks ≡ set % 2 ^ length ns) where
-    pub group-marks : membersBelow marks 64 ≡ members l gs g
-    group-marks = ap (λ (x : ℕ). membersBelow x 64) d ∙ below-declared set (length ns) 64 few ∙ sym group-members
-
-    pub group-bytes : setBytes marks ns ≡ groupBytes l gs g
-    unfolding setBytes
-    group-bytes =
-        ap (λ (x : ℕ). setBytes x ns) d ∙ ap (λ (is : List VariableNumber). sum (map (sizeAt ns) is)) (below-declared set (length ns) (length ns) (le-refl (length ns)))
-        ∙ group-fits
+  -- the marks of declared variables alone are its members'
+  pub group-marks : membersBelow (set % 2 ^ length ns) 64 ≡ members l gs g
+  group-marks = below-declared set (length ns) 64 few ∙ sym group-members
 
   -- a payload that is long enough for a change, and what was changed, read or listed
   pub group-room : (k n : ℕ) → k ≡ n + groupBytes l gs g → n + setBytes set ns ≤ k

@@ -1,13 +1,13 @@
 -- Turns of the walks over a set: from each on, what is left to do gives the whole. Assumes nothing.
 use mathlib.Core.Path.{_≡_, refl, sym, ap, ap₂, _∙_}
-use mathlib.Core.Bool.{Bool, true, false, cond, _&&_, _||_, and-assoc, or-assoc, and-true, or-false}
+use mathlib.Core.Bool.{Bool, true, false, cond}
 use mathlib.Core.List.{List, [], _∷_, map}
 use Prim.Native.Nat.{ℕ, _+_, _-_, _*_, _^_, _≤_, _<_}
 use native.Mathlib.Omega.{arith}
 use native.Mathlib.Nat.{add-zero}
 use lib.ListN.{length, take, drop, getD, length-append}
 use lib.Seq.{drop-drop}
-use Rattle.bsmp.specs.Base.{sum, every, some, cut, join}
+use Rattle.bsmp.specs.Base.{sum, cut, join}
 use Rattle.bsmp.specs.Board.{variable, marked}
 use Rattle.bsmp.specs.Message.{changed, edited, told}
 use Rattle.bsmp.specs.declared.Operation.{Operation}

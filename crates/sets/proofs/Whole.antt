@@ -2,9 +2,9 @@
 use mathlib.Core.Path.{_≡_, refl, sym, ap, ap₂, _∙_}
 use mathlib.Core.Bool.{Bool, true, cond, not}
 use mathlib.Core.List.{List, [], _∷_, _++_, map, append-nil, append-assoc}
-use Prim.Native.Nat.{ℕ, zero, suc, _+_, _-_, _^_, _≤_, _<_}
+use Prim.Native.Nat.{ℕ, zero, suc, _+_, _-_, _*_, _^_, _≤_, _<_}
 use native.Mathlib.Omega.{arith}
-use lib.ListN.{length, take, drop, getD, set, length-append, length-take, length-drop}
+use lib.ListN.{length, take, drop, getD, set, length-append, length-drop}
 use lib.Seq.{take-all}
 use Rattle.bsmp.specs.Base.{sum, upFrom, only, cut, join}
 use Rattle.bsmp.specs.Board.{variable, marked}
@@ -44,15 +44,32 @@ cut-length [] [] h = refl
 cut-length [] (x ∷ s) h = absurd (omega (arith, h))
 cut-length (n ∷ ns) s h = ap suc (cut-length ns (drop n s) (simp length-drop (omega (arith, h))))
 
+all-sizes : (ns : List ℕ) → length ns ≤ 64 → map (sizeAt ns) (membersOf (2 ^ 64 - 1) ns) ≡ ns
+all-sizes ns few = ap (map (sizeAt ns)) (all-members (length ns) few) ∙ at-all ns 0
+
+-- the bytes of all, and how many they can be
+sum-small : (ns : List ℕ) → ((k : ℕ) → getD ns k 0 < 256) → sum ns ≤ 255 * length ns
+unfolding sum
+sum-small [] h = omega arith
+sum-small (n ∷ ns) h = omega (arith, h 0, sum-small ns (λ k. h (suc k)))
+
+module _ (ns : List ℕ) (x : ℕ) (few : length ns ≤ 64) (w : x ≡ sum (take (length ns) ns)) where
+  all-bytes : x ≡ sum ns
+  all-bytes = w ∙ ap sum (take-all (length ns) ns (omega arith))
+
+  pub bytes-whole : (m : ℕ) → m ≡ 2 ^ 64 - 1 → x ≡ setBytes m ns
+  unfolding setBytes
+  bytes-whole m e = rw (e, all-sizes ns few) all-bytes
+
+  pub small-whole : ((k : ℕ) → getD ns k 0 < 256) → x ≤ 16320
+  small-whole h = omega (arith, all-bytes, sum-small ns h)
+
 module _ (ns s : List ℕ) (z : Sound ns s) where
   all-told : told (cut ns s) (membersOf (2 ^ 64 - 1) ns) ≡ s
   unfolding told
   all-told =
       ap (λ is. join (map (λ j. getD (cut ns s) (j .0) []) is)) (all-members (length ns) (z .few) ∙ ap (λ k. map variable (upFrom 0 k)) (sym (cut-length ns s (z .exact))))
       ∙ ap join (at-all (cut ns s) []) ∙ join-cut ns s
-
-  all-sizes : map (sizeAt ns) (membersOf (2 ^ 64 - 1) ns) ≡ ns
-  all-sizes = ap (map (sizeAt ns)) (all-members (length ns) (z .few)) ∙ at-all ns 0
 
   -- the values of all, put into the reply as they stand
   pub read-whole : (m : ℕ) (r : List ℕ) (at : ℕ) (r′ : List ℕ) → m ≡ 2 ^ 64 - 1 → r′ ≡ put r at (part s 0 (length s))
@@ -137,7 +154,7 @@ module _ (op : Operation) where
   module _ (ns s p : List ℕ) (f : ℕ) (z : Sound ns s) where
     pub whole-room : (m : ℕ) → m ≡ 2 ^ 64 - 1 → f + setBytes m ns ≤ length p → f + length s ≤ length p
     unfolding setBytes
-    whole-room m e h = rw (e, all-sizes ns s z, z .exact) at h
+    whole-room m e h = rw (e, all-sizes ns (z .few), z .exact) at h
 
     -- all values changed by the payload from f on
     pub change-whole : (m : ℕ) (s′ : List ℕ) → m ≡ 2 ^ 64 - 1 → f + length s ≤ length p → s′ ≡ put s 0 (changed op (part s 0 (length s)) (part p f (length s)))
@@ -151,5 +168,5 @@ module _ (op : Operation) where
         let k : edited op (map variable (upFrom 0 (length ns))) (cut ns q) (cut ns s) ≡ cut ns (changed op s q) =
         ap (λ n. edited op (map variable (upFrom 0 n)) (cut ns q) (cut ns s)) (sym (cut-length ns s (z .exact))) ∙ edited-each [] (cut ns s) (cut ns q) ∙ cut-each ns s q (z .exact) in
         ap (cut ns) (w ∙ ap (put s 0) c ∙ put-all s (changed op s q) l) ∙ sym k
-        ∙ ap₂ (λ is ms. edited op is (cut ms q) (cut ns s)) (sym (all-members (length ns) (z .few))) (sym (all-sizes ns s z))
+        ∙ ap₂ (λ is ms. edited op is (cut ms q) (cut ns s)) (sym (all-members (length ns) (z .few))) (sym (all-sizes ns (z .few)))
         ∙ ap (λ y. edited op (membersOf y ns) (cut (map (sizeAt ns) (membersOf y ns)) q) (cut ns s)) (sym e)

@@ -6,7 +6,6 @@ use Prim.Native.Nat.{ℕ, _+_, _≤_, _<_}
 use lib.ListN.{length, getD}
 use Rattle.bsmp.specs.Base.{sum}
 use Rattle.bsmp.specs.Board.{Layout, variable, members, setOf}
-use Rattle.bsmp.specs.declared.VariableNumber.{VariableNumber}
 use Rattle.bsmp.specs.declared.GroupNumber.{GroupNumber}
 use Rattle.lists.specs.Put.{put}
 use Rattle.sets.specs.Members.{membersOf, groupSet}

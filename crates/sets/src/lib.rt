@@ -104,6 +104,10 @@ pub fn set_bytes(sizes: &[u8], set: u64) -> usize
     requires { ⌜ length (now sizes) ≤ 64 ⌝ }
     ensures { λ r. ⌜ (r ≡ setBytes set (now (sizes .entry))) × (r ≤ 16320) ⌝ }
 {
+    // all variables, as of group 0
+    if set == !0 {
+        return lists::offset(sizes, sizes.len());
+    }
     let mut bytes: usize = 0;
     let mut i = 0;
     while i < sizes.len() {

@@ -7,5 +7,5 @@ use Rattle.groups.proofs.list_byte.Tie as tie
 pub list-byte-spec : {M : Type 1} → statement M
 list-byte-spec =
     tie.close
-    (tie.spec (λ c κs. search needs) (λ c κs. search needs) (λ c κs. search needs) (λ c. search needs) (λ c. search needs)
+    (tie.spec (λ c κs. search needs) (λ c κs. search needs) (λ c κs. search needs) (λ c κs. search needs) (λ c. search needs) (λ c. search needs)
     (λ c. search (listed-writable, needs)) (λ c. search needs) (λ c. search (listed-other, needs)))
