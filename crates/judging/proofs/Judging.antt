@@ -57,10 +57,7 @@ module _ (l : Layout) (gs : List ℕ) (busy : ℕ) (m : List ℕ) where
   pub message-passed : (v : Check) (k : Command) → v ≡ judge l gs busy m → v ≡ Pass → k ≡ commandOf (byteAt m 0) → Passed l gs (midOf 3 (length m - 3) m) k
   message-passed v k h e f = record { marks = busy; passes = rw (f, mid-rest 3 m) (judge-pass (sym h ∙ e) .1) }
 
--- what is judged, for what responds to it
-pub judged-by : (l : Layout) (gs : List ℕ) (busy : ℕ) (m : List ℕ) (v : Check) → v ≡ judge l gs busy m → Judged l gs m v
-judged-by l gs busy m v h = record { marks = busy; judged = h }
-
+-- the same of a judgement under some busy marks, for what responds to it
 module _ (l : Layout) (gs m : List ℕ) (v : Check) where
   pub judged-some : Judged l gs m v → v ≡ Pass → 0 < length m
   judged-some j e = message-some l gs (j .marks) m v (j .judged) e

@@ -76,3 +76,18 @@ change-back a n op s f p ys e h k =
 
 pub length-change : (op : Operation) (n : ℕ) (s : List ℕ) (a : ℕ) (p : List ℕ) (f : ℕ) → a + n ≤ length s → f + n ≤ length p → length (changed op (part s a n) (part p f n)) ≡ n
 length-change op n s a p f h k = length-mask op _ _ ∙ omega (arith, length-part s a n h, length-part p f n k)
+
+-- the first and the other bytes of a change
+pub take-changed : (op : Operation) (n : ℕ) (xs ms : List ℕ) → take n (changed op xs ms) ≡ changed op (take n xs) (take n ms)
+unfolding changed
+take-changed op zero xs ms = refl
+take-changed op (suc n) [] ms = refl
+take-changed op (suc n) (x ∷ xs) [] = refl
+take-changed op (suc n) (x ∷ xs) (m ∷ ms) = ap (operated op x m ∷_) (take-changed op n xs ms)
+
+pub drop-changed : (op : Operation) (n : ℕ) (xs ms : List ℕ) → drop n (changed op xs ms) ≡ changed op (drop n xs) (drop n ms)
+unfolding changed
+drop-changed op zero xs ms = refl
+drop-changed op (suc n) [] ms = refl
+drop-changed op (suc n) (x ∷ xs) [] = sym (mask-nil op (drop n xs))
+drop-changed op (suc n) (x ∷ xs) (m ∷ ms) = drop-changed op n xs ms

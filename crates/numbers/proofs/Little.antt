@@ -1,20 +1,20 @@
 -- Bytes as an unsigned number and back: turns of the two loops, and how large the number is. Assumes nothing.
 use mathlib.Core.Path.{_≡_, refl, sym, ap, _∙_}
 use mathlib.Core.Bool.{Bool, true, false}
-use mathlib.Core.List.{List, [], _∷_, append-nil}
+use mathlib.Core.List.{List, [], _∷_}
 use Prim.Native.Nat.{ℕ, zero, suc, _+_, _-_, _*_, _/_, _%_, _^_, _≤_, _<_}
 use native.Mathlib.Nat.{le-trans, mul-suc, sub-zero}
 use native.Mathlib.Omega.{arith}
 use borrow.Author.Tests.{ltb-true, ltb-false}
 use lib.Dec.{ltb, lit<}
 use lib.Pow.{pow-add, pow-mono}
-use lib.ListN.{length, drop, getD, set, length-drop, drop-of-length-le, List·getD-eq-default}
+use lib.ListN.{length, drop, getD, set, length-drop, List·getD-eq-default}
 use lib.Seq.{getD-drop, drop-length}
 use mir.Syntax.{w8, w64}
 use mir.Val.{Fits}
 use Rattle.bsmp.specs.Number.{little, littleBytes, turned}
 use Rattle.lists.specs.Put.{put}
-use Rattle.lists.proofs.Put.{drop-one, put-nil, put-set}
+use Rattle.lists.proofs.Put.{drop-one, put-nil, put-set, put-all}
 use Rattle.numbers.specs.Size.{placeOf}
 use Rattle.numbers.proofs.Order.{length-turned, turned-turned, turned-read, turned-write}
 
@@ -81,12 +81,6 @@ pub length-bytes : (n u : ℕ) → length (littleBytes n u) ≡ n
 unfolding littleBytes
 length-bytes zero u = refl
 length-bytes (suc n) u = ap suc (length-bytes n (u / 256))
-
-put-all : (s v : List ℕ) → length v ≡ length s → put s 0 v ≡ v
-unfolding put
-put-all s v e =
-    let h : length s ≤ 0 + length v = omega arith in
-    rw (drop-of-length-le s h) (append-nil v)
 
 pub write-start : (big : Bool) (d : List ℕ) (u : ℕ) → put (turned big d) 0 (littleBytes (length d - 0) u) ≡ littleBytes (length d) u
 write-start big d u = rw (sub-zero) (put-all (turned big d) (littleBytes (length d) u) (length-bytes (length d) u ∙ sym (length-turned big d)))

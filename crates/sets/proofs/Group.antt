@@ -15,15 +15,9 @@ use Rattle.bsmp.specs.declared.VariableNumber.{VariableNumber}
 use Rattle.bsmp.specs.declared.GroupNumber.{GroupNumber}
 use Rattle.sets.specs.Members.{membersBelow, membersOf, sizeAt, setBytes, groupSet}
 use Rattle.sets.specs.Promises.{GroupSet, Placed}
-use Rattle.sets.proofs.Marks.{has-not, has-none}
+use Rattle.sets.proofs.Marks.{has-not, has-all}
+use Rattle.sets.proofs.Members.{only-same}
 use Rattle.sets.proofs.AtOnce.{below-declared}
-
--- tests that agree on all variables below a number choose the same of them
-only-same : (f h : VariableNumber → Bool) (i n : ℕ) → ((k : ℕ) → k < i + n → f (variable k) ≡ h (variable k))
-    → only f (map variable (upFrom i n)) ≡ only h (map variable (upFrom i n))
-only-same f h i zero e = refl
-only-same f h i (suc n) e =
-    ap₂ (λ (b : Bool) (x : List VariableNumber). cond b (variable i ∷ x) x) (e i (omega arith)) (only-same f h (suc i) n (λ k l. e k (omega (arith, l))))
 
 group-is : (w : ℕ) (gs : List ℕ) (g : GroupNumber) (x : ℕ) → x ≡ groupSet w gs g → ((k : ℕ) → k < 64 → inGroup w gs g (variable k) ≡ marked x (variable k)) → GroupSet w gs g x
 unfolding members membersBelow
@@ -37,7 +31,7 @@ group-is w gs g x e h = record {
 module _ (w : ℕ) (gs : List ℕ) (g : GroupNumber) where
   pub set-all : g .0 ≡ 0 → GroupSet w gs g (2 ^ 64 - 1)
   unfolding inGroup groupSet
-  set-all e = group-is w gs g (2 ^ 64 - 1) (rw e) (λ k h. rw e (sym (has-not 64 0 k (omega arith) h ∙ ap not (has-none k))))
+  set-all e = group-is w gs g (2 ^ 64 - 1) (rw e) (λ k h. rw e (sym (has-all k h)))
 
   pub set-read-only : g .0 ≡ 1 → w < 2 ^ 64 → GroupSet w gs g (2 ^ 64 - 1 - w)
   unfolding inGroup groupSet

@@ -61,6 +61,10 @@ unfolding has
 has-none zero = refl
 has-none (suc k) = has-half 0 k ∙ has-none k
 
+-- all of them, up to 64
+pub has-all : (k : ℕ) → k < 64 → has (2 ^ 64 - 1) k ≡ true
+has-all k h = has-not 64 0 k (omega arith) h ∙ ap not (has-none k)
+
 -- a number is the marks of its bits
 has-up : (m i n : ℕ) → map (has m) (upFrom (suc i) n) ≡ map (has (m / 2)) (upFrom i n)
 has-up m i zero = refl

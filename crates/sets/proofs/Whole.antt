@@ -1,48 +1,42 @@
 -- The set of all variables: their values one after another are the store, and their change is one of the store as a whole. Assumes nothing.
 use mathlib.Core.Path.{_≡_, refl, sym, ap, ap₂, _∙_}
-use mathlib.Core.Bool.{Bool, true, cond, not}
-use mathlib.Core.List.{List, [], _∷_, _++_, map, append-nil, append-assoc}
+use mathlib.Core.Bool.{true}
+use mathlib.Core.List.{List, [], _∷_, _++_, map, append-assoc}
 use Prim.Native.Nat.{ℕ, zero, suc, _+_, _-_, _*_, _^_, _≤_, _<_}
 use native.Mathlib.Omega.{arith}
-use lib.ListN.{length, take, drop, getD, set, length-append, length-drop}
-use lib.Seq.{take-all}
+use lib.ListN.{length, take, drop, getD, set, length-append, length-drop, length-map}
+use lib.Seq.{take-all, getD-append-seam, set-append-seam}
 use Rattle.bsmp.specs.Base.{sum, upFrom, only, cut, join}
 use Rattle.bsmp.specs.Board.{variable, marked}
-use Rattle.bsmp.specs.Message.{operated, changed, edited, told}
+use Rattle.bsmp.specs.Message.{changed, edited, told}
 use Rattle.bsmp.specs.declared.Operation.{Operation}
 use Rattle.bsmp.specs.declared.VariableNumber.{VariableNumber}
-use Rattle.bsmp.proofs.Lists.{map-numbers}
-use Rattle.bsmp.proofs.Store.{join-cut}
+use Rattle.bsmp.proofs.Lists.{map-map, map-numbers}
+use Rattle.bsmp.proofs.Store.{join-cut, lengths-cut}
 use Rattle.lists.specs.Put.{put, part}
-use Rattle.lists.proofs.Mask.{length-mask}
+use Rattle.lists.proofs.Put.{put-all}
+use Rattle.lists.proofs.Mask.{length-mask, take-changed, drop-changed}
 use Rattle.sets.specs.Members.{membersBelow, membersOf, sizeAt, setBytes}
 use Rattle.sets.specs.Promises.{Sound, Placed}
-use Rattle.sets.proofs.Marks.{has-not, has-none}
+use Rattle.sets.proofs.Marks.{has-all}
+use Rattle.sets.proofs.Members.{only-same}
 
 -- all marks: every variable is a member
-only-all : (f : VariableNumber → Bool) (i n : ℕ) → ((k : ℕ) → k < i + n → f (variable k) ≡ true) → only f (map variable (upFrom i n)) ≡ map variable (upFrom i n)
-only-all f i zero e = refl
-only-all f i (suc n) e =
-    ap₂ (λ (b : Bool) (x : List VariableNumber). cond b (variable i ∷ x) x) (e i (omega arith)) (only-all f (suc i) n (λ k l. e k (omega (arith, l))))
+only-true : (l : List VariableNumber) → only (λ i. true) l ≡ l
+only-true [] = refl
+only-true (i ∷ l) = ap (i ∷_) (only-true l)
 
 all-members : (n : ℕ) → n ≤ 64 → membersBelow (2 ^ 64 - 1) n ≡ map variable (upFrom 0 n)
 unfolding membersBelow
-all-members n h = only-all (marked (2 ^ 64 - 1)) 0 n (λ k l. has-not 64 0 k (omega arith) (omega (arith, l)) ∙ ap not (has-none k))
-
-map-map : {A B C : Type 0} (f : B → C) (g : A → B) (l : List A) → map f (map g l) ≡ map (λ x. f (g x)) l
-map-map f g [] = refl
-map-map f g (x ∷ l) = ap (f (g x) ∷_) (map-map f g l)
+all-members n h = only-same (marked (2 ^ 64 - 1)) (λ i. true) 0 n (λ k l. has-all k (omega (arith, l))) ∙ only-true (map variable (upFrom 0 n))
 
 -- what stands at each variable's number, for all of them
 at-all : {A : Type 0} (l : List A) (d : A) → map (λ j. getD l (j .0) d) (map variable (upFrom 0 (length l))) ≡ l
-at-all l d = map-map (λ j. getD l (j .0) d) variable (upFrom 0 (length l)) ∙ map-numbers l d
+at-all l d = map-map variable (λ j. getD l (j .0) d) (upFrom 0 (length l)) ∙ map-numbers l d
 
 -- a store of just the length is cut into as many pieces as there are sizes
 cut-length : (ns s : List ℕ) → sum ns ≡ length s → length (cut ns s) ≡ length ns
-unfolding sum
-cut-length [] [] h = refl
-cut-length [] (x ∷ s) h = absurd (omega (arith, h))
-cut-length (n ∷ ns) s h = ap suc (cut-length ns (drop n s) (simp length-drop (omega (arith, h))))
+cut-length ns s h = sym (length-map (cut ns s) length) ∙ ap length (lengths-cut ns s (sym h))
 
 all-sizes : (ns : List ℕ) → length ns ≤ 64 → map (sizeAt ns) (membersOf (2 ^ 64 - 1) ns) ≡ ns
 all-sizes ns few = ap (map (sizeAt ns)) (all-members (length ns) few) ∙ at-all ns 0
@@ -81,55 +75,11 @@ module _ (ns s : List ℕ) (z : Sound ns s) where
     bytes = w ∙ ap (put r at) (take-all (length s) s (omega arith));
   })
 
--- a change of the store is one of each piece
-take-changed : (op : Operation) (n : ℕ) (xs ms : List ℕ) → take n (changed op xs ms) ≡ changed op (take n xs) (take n ms)
-unfolding changed
-take-changed op zero xs ms = refl
-take-changed op (suc n) [] ms = refl
-take-changed op (suc n) (x ∷ xs) [] = refl
-take-changed op (suc n) (x ∷ xs) (m ∷ ms) = ap (operated op x m ∷_) (take-changed op n xs ms)
-
-drop-changed : (op : Operation) (n : ℕ) (xs ms : List ℕ) → drop n (changed op xs ms) ≡ changed op (drop n xs) (drop n ms)
-unfolding changed
-drop-changed op zero xs ms = refl
-drop-changed op (suc n) [] ms = refl
-drop-changed op (suc n) (x ∷ xs) [] = by (drop n xs)
-  where
-    by : (l : List ℕ) → [] ≡ changed op l []
-    by [] = refl
-    by (y ∷ l) = refl
-drop-changed op (suc n) (x ∷ xs) (m ∷ ms) = drop-changed op n xs ms
-
--- no more than the value's length of the mask counts
-changed-take : (op : Operation) (xs ms : List ℕ) → changed op xs (take (length xs) ms) ≡ changed op xs ms
-unfolding changed
-changed-take op [] ms = refl
-changed-take op (x ∷ xs) [] = refl
-changed-take op (x ∷ xs) (m ∷ ms) = ap (operated op x m ∷_) (changed-take op xs ms)
-
-drop-all : (l : List ℕ) → drop (length l) l ≡ []
-drop-all [] = refl
-drop-all (x ∷ l) = drop-all l
-
-put-all : (s x : List ℕ) → length x ≡ length s → put s 0 x ≡ x
-unfolding put
-put-all s x e =
-    let n : 0 + length x ≡ length s = omega arith in
-    ap (λ k. x ++ drop k s) n ∙ ap (x ++_) (drop-all s) ∙ append-nil x
-
 module _ (op : Operation) where
   each : (vs ps : List (List ℕ)) → List (List ℕ)
   each [] ps = []
   each (v ∷ vs) [] = v ∷ vs
   each (v ∷ vs) (p ∷ ps) = changed op v p ∷ each vs ps
-
-  at-front : (ws : List (List ℕ)) (v : List ℕ) (vs : List (List ℕ)) → getD (ws ++ v ∷ vs) (length ws) [] ≡ v
-  at-front [] v vs = refl
-  at-front (w ∷ ws) v vs = at-front ws v vs
-
-  set-front : (ws : List (List ℕ)) (v x : List ℕ) (vs : List (List ℕ)) → set (ws ++ v ∷ vs) (length ws) x ≡ ws ++ x ∷ vs
-  set-front [] v x vs = refl
-  set-front (w ∷ ws) v x vs = ap (w ∷_) (set-front ws v x vs)
 
   -- neighbours edited one after another
   edited-each : (ws vs ps : List (List ℕ)) → edited op (map variable (upFrom (length ws) (length vs))) ps (ws ++ vs) ≡ ws ++ each vs ps
@@ -140,7 +90,7 @@ module _ (op : Operation) where
       let x : List ℕ = changed op v p in
       let n : length (ws ++ x ∷ []) ≡ suc (length ws) = simp length-append (omega arith) in
       ap (edited op (map variable (upFrom (suc (length ws)) (length vs))) ps)
-      (ap (λ y. set (ws ++ v ∷ vs) (length ws) (changed op y p)) (at-front ws v vs) ∙ set-front ws v x vs ∙ sym (append-assoc ws (x ∷ []) vs))
+      (ap (λ y. set (ws ++ v ∷ vs) (length ws) (changed op y p)) (getD-append-seam ws v vs []) ∙ set-append-seam ws v vs x ∙ sym (append-assoc ws (x ∷ []) vs))
       ∙ ap (λ k. edited op (map variable (upFrom k (length vs))) ps ((ws ++ x ∷ []) ++ vs)) (sym n)
       ∙ edited-each (ws ++ x ∷ []) vs ps ∙ append-assoc ws (x ∷ []) (each vs ps)
 
@@ -162,9 +112,8 @@ module _ (op : Operation) where
     unfolding part
     change-whole m s′ e h w =
         let q : List ℕ = drop f p in
-        let c : changed op (take (length s) s) (take (length s) q) ≡ changed op s q =
-        ap (λ y. changed op y (take (length s) q)) (take-all (length s) s (omega arith)) ∙ changed-take op s q in
         let l : length (changed op s q) ≡ length s = length-mask op s q ∙ simp length-drop (omega arith) in
+        let c : changed op (take (length s) s) (take (length s) q) ≡ changed op s q = sym (take-changed op (length s) s q) ∙ take-all (length s) (changed op s q) (omega arith) in
         let k : edited op (map variable (upFrom 0 (length ns))) (cut ns q) (cut ns s) ≡ cut ns (changed op s q) =
         ap (λ n. edited op (map variable (upFrom 0 n)) (cut ns q) (cut ns s)) (sym (cut-length ns s (z .exact))) ∙ edited-each [] (cut ns s) (cut ns q) ∙ cut-each ns s q (z .exact) in
         ap (cut ns) (w ∙ ap (put s 0) c ∙ put-all s (changed op s q) l) ∙ sym k
