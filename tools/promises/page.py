@@ -47,7 +47,7 @@ def section(crate):
     print(f"\n### `{crate}`\n")
     if unique:
         print(f"Uniqueness: `crates/{crate}/proofs/Unique.antt`.")
-    print("Edits that are refused: " + (", ".join(f"`{edit}`" for edit in edits) if edits else "none of its own; those of the crates above change what it gives") + ".\n")
+    print("Edits that are refused: " + (", ".join(f"`{edit}`" for edit in edits) if edits else "none of its own; wrong answers are tried in the crates that use it or that it uses") + ".\n")
     print("| Function | Takes | Asks | Promises |\n|---|---|---|---|")
     for name, takes, asks, promises in rows:
         print(f"| `{name}` | {takes or 'nothing'} | {asks or 'nothing'} | {promises} |".replace("||", "\\|\\|"))
