@@ -9,10 +9,10 @@ use native.Mathlib.Decide.{ℕ-discrete}
 use lib.ListN.{length, drop, set, getD, length-append}
 use borrow.Author.Tests.{eqb-true, eqb-false}
 use Rattle.bsmp.specs.Base.{some, first, Test, join}
-use Rattle.bsmp.specs.Board.{variable, Table, Layout, layout, State, valueOf, isSame, usable}
+use Rattle.bsmp.specs.Board.{variable, Table, Layout, layout, State, valueOf, isSame, usable, faults}
 use Rattle.bsmp.specs.Message.{Change, nothing, edit, fill, regroup, Answer, say, tell, show, call, Line, changed, edited, filled, after, told, replies, spoken, said, stateAfter, carried, handled, asked, judge}
-use Rattle.bsmp.specs.Packet.{Place, Ending, reply, silence, Result, frame, ends, answered, refuse, isOwn, destination, message}
-use Rattle.bsmp.specs.Packet.{boardTests, packetTests, packet, Ran, ranSays, resultTests, functionResult, storeTests, boardStore}
+use Rattle.bsmp.specs.Packet.{Place, Ending, reply, silence, Result, frame, ends, ended, served, refuse, isOwn, destination, message}
+use Rattle.bsmp.specs.Packet.{placeTests, packetTests, packet, Ran, ranSays, resultTests, functionResult, storeTests, boardStore}
 use Rattle.bsmp.specs.Apart.{Alike, Event, arrives, returns, stores, happen, tells, readBy, readsIn, reads, answerOf, Apart, endings, later, unread}
 use Rattle.bsmp.specs.declared.VariableNumber.{VariableNumber}
 use Rattle.bsmp.specs.declared.FunctionNumber.{FunctionNumber}
@@ -22,6 +22,7 @@ use Rattle.bsmp.specs.declared.Refusal.{Refusal}
 use Rattle.bsmp.specs.declared.Check.{Check}
 use Rattle.bsmp.specs.declared.Check.the-variants.{Pass, Fail}
 use Rattle.bsmp.proofs.Bools.{or-false, or-true, and-false}
+use Rattle.bsmp.proofs.Usable.{usable-by, faults-by}
 use Rattle.bsmp.proofs.Lists.{map-set, length-at, set-at, count-same, parts}
 
 -- numbers of variables
@@ -68,8 +69,10 @@ after-alike v (fill k d) s₁ s₂ h =
 after-alike v (regroup gs) s₁ s₂ h = record { others = h .others; lengths = h .lengths; blocks = h .blocks; groups = refl }
 
 pub usable-alike : (t : Table) (v : VariableNumber) (s₁ s₂ : State) → Alike v s₁ s₂ → usable t s₁ ≡ usable t s₂
-unfolding usable
-usable-alike t v s₁ s₂ h = rw (h .lengths, h .blocks, h .groups)
+usable-alike t v s₁ s₂ h = usable-by t s₁ s₂ (h .lengths) (ap (map length) (h .blocks)) (h .groups)
+
+pub faults-alike : (t : Table) (v : VariableNumber) (s₁ s₂ : State) → Alike v s₁ s₂ → faults t s₁ ≡ faults t s₂
+faults-alike t v s₁ s₂ h = faults-by t s₁ s₂ (usable-alike t v s₁ s₂ h)
 
 -- answers -------------------------------------------------------------------------------------------------------------------
 -- a frame shows its payload
@@ -128,19 +131,19 @@ quiet : (v : VariableNumber) (e : Ending) (s₁ s₂ : State) → Alike v s₁ s
 quiet v e s₁ s₂ h = record { alike = h; same = λ r. refl; told = λ r. absurd (false≢true r) }
 
 carried-apart : (v : VariableNumber) (due : Bool) (l : Line) (c : Check) (s₁ s₂ : State) → Alike v s₁ s₂
-    → Apart v (answered due (carried l c s₁)) (answered due (carried l c s₂)) (due && readBy v l c)
+    → Apart v (ended due (carried l c s₁)) (ended due (carried l c s₂)) (due && readBy v l c)
 unfolding carried said stateAfter
 carried-apart v due l (Fail x) s₁ s₂ h = record { alike = h; same = λ e. refl; told = λ e. absurd (and-false due e) }
 carried-apart v due l Pass s₁ s₂ h =
     let k : Alike v (after (l .change) s₁) (after (l .change) s₂) = after-alike v (l .change) s₁ s₂ h in
     record { alike = k; same = spoken-same v _ _ k due (l .answer); told = spoken-told v _ _ k due (l .answer) }
 
-handled-apart : (l : Layout) (v : VariableNumber) (busy : ℕ) (due : Bool) (m : List ℕ) (s₁ s₂ : State) → Alike v s₁ s₂
-    → Apart v (answered due (handled l busy m s₁)) (answered due (handled l busy m s₂)) (due && readsIn l (s₁ .groups) busy m v)
-unfolding handled
-handled-apart l v busy due m s₁ s₂ h =
-    subst (λ gs. Apart v (answered due (carried (asked l (s₁ .groups) m) (judge l (s₁ .groups) busy m) s₁))
-    (answered due (carried (asked l gs m) (judge l gs busy m) s₂)) (due && readsIn l (s₁ .groups) busy m v))
+served-apart : (l : Layout) (v : VariableNumber) (busy : ℕ) (due : Bool) (m : List ℕ) (s₁ s₂ : State) → Alike v s₁ s₂
+    → Apart v (served l busy due m s₁) (served l busy due m s₂) (due && readsIn l (s₁ .groups) busy m v)
+unfolding served handled
+served-apart l v busy due m s₁ s₂ h =
+    subst (λ gs. Apart v (ended due (carried (asked l (s₁ .groups) m) (judge l (s₁ .groups) busy m) s₁))
+    (ended due (carried (asked l gs m) (judge l gs busy m) s₂)) (due && readsIn l (s₁ .groups) busy m v))
     (h .groups) (carried-apart v due (asked l (s₁ .groups) m) (judge l (s₁ .groups) busy m) s₁ s₂ h)
 
 cond-apart : (v : VariableNumber) (b : Bool) {x₁ y₁ x₂ y₂ : Result} {z₁ z₂ : Bool} → Apart v x₁ y₁ z₁ → Apart v x₂ y₂ z₂
@@ -172,25 +175,28 @@ packet-apart : (t : Table) (a : Place) (v : VariableNumber) (busy room : ℕ) (p
     → Apart v (packet t a busy room p s₁) (packet t a busy room p s₂) (reads t a v (arrives busy room p) s₁)
 unfolding packet
 packet-apart t a v busy room p s₁ s₂ h =
-    rw (← usable-alike t v s₁ s₂ h)
-    (first-apart v (boardTests (usable t s₁) a room) s₁ s₂ _ _ _ h
+    rw (← faults-alike t v s₁ s₂ h)
+    (first-apart v (faults t s₁) s₁ s₂ _ _ _ h
+    (first-apart v (placeTests a room) s₁ s₂ _ _ _ h
     (first-apart v (packetTests a p) s₁ s₂ _ _ _ h
-    (handled-apart (layout t) v busy (isOwn a (destination p)) (message p) s₁ s₂ h)))
+    (served-apart (layout t) v busy (isOwn a (destination p)) (message p) s₁ s₂ h))))
 
 result-apart : (t : Table) (v : VariableNumber) (room : ℕ) (f : FunctionNumber) (due : Bool) (r : Ran) (s₁ s₂ : State) → Alike v s₁ s₂
     → Apart v (functionResult t room f due r s₁) (functionResult t room f due r s₂) false
 unfolding functionResult
 result-apart t v room f due r s₁ s₂ h =
-    rw (← usable-alike t v s₁ s₂ h)
-    (first-quiet v (resultTests (usable t s₁) (layout t) room f r) s₁ s₂ _ _ h (quiet v (ends due (ranSays r)) s₁ s₂ h))
+    rw (← faults-alike t v s₁ s₂ h)
+    (first-quiet v (faults t s₁) s₁ s₂ _ _ h
+    (first-quiet v (resultTests (layout t) room f r) s₁ s₂ _ _ h (quiet v (ends due (ranSays r)) s₁ s₂ h)))
 
 store-apart : (t : Table) (v i : VariableNumber) (b : List ℕ) (s₁ s₂ : State) → Alike v s₁ s₂
     → Apart v (boardStore t i b s₁) (boardStore t i b s₂) false
 unfolding boardStore
 store-apart t v i b s₁ s₂ h =
-    rw (← usable-alike t v s₁ s₂ h)
-    (first-quiet v (storeTests (usable t s₁) (layout t) i b) s₁ s₂ _ _ h
-    (quiet v silence _ _ (after-alike v (edit Replace (i ∷ []) (b ∷ [])) s₁ s₂ h)))
+    rw (← faults-alike t v s₁ s₂ h)
+    (first-quiet v (faults t s₁) s₁ s₂ _ _ h
+    (first-quiet v (storeTests (layout t) i b) s₁ s₂ _ _ h
+    (quiet v silence _ _ (after-alike v (edit Replace (i ∷ []) (b ∷ [])) s₁ s₂ h))))
 
 -- one event
 pub step : (t : Table) (a : Place) (v : VariableNumber) (e : Event) (s₁ s₂ : State) → Alike v s₁ s₂

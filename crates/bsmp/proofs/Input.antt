@@ -7,10 +7,10 @@ use native.Mathlib.Omega.{arith}
 use lib.ListN.{length, take, drop, length-drop, length-take}
 use lib.Seq.{drop-drop, take-nil}
 use Rattle.bsmp.specs.Base.{byteAt}
-use Rattle.bsmp.specs.Board.{Table, Layout, layout, State, usable}
+use Rattle.bsmp.specs.Board.{Table, Layout, layout, State, faults}
 use Rattle.bsmp.specs.Codes.{commandOf}
 use Rattle.bsmp.specs.Message.{Said, replies, runs, spoken, said, stateAfter, carried, handled, line, asked}
-use Rattle.bsmp.specs.Packet.{Place, Ending, reply, silence, run, refuse, ends, boardTests, packetTests, packet, message}
+use Rattle.bsmp.specs.Packet.{Place, Ending, reply, silence, run, refuse, ends, placeTests, packetTests, served, packet, message}
 use Rattle.bsmp.specs.declared.FunctionNumber.{FunctionNumber}
 use Rattle.bsmp.specs.declared.Command.{Command}
 use Rattle.bsmp.specs.declared.Command.the-variants.{Version, ListVariables, ListGroups, ShowGroup, ListCurves, ListFunctions, ReadVariable, ReadGroup, WriteVariable, WriteGroup}
@@ -82,11 +82,12 @@ ends-at due p k (runs f i) h =
     h .0 ∙ drop-take 4 (length p - 2) (drop 1 p) ∙ rw (e, drop-drop 4 1 p)
 
 packet-at : (t : Table) (a : Place) (busy room : ℕ) (p : List ℕ) (s : State) → At5 p (packet t a busy room p s .ending)
-unfolding packet
+unfolding packet served
 packet-at t a busy room p s =
-    first-case (λ x. At5 p (x .ending)) (boardTests (usable t s) a room) (refuse s) _ (λ r. tt)
+    first-case (λ x. At5 p (x .ending)) (faults t s) (refuse s) _ (λ r. tt)
+    (λ b. first-case (λ x. At5 p (x .ending)) (placeTests a room) (refuse s) _ (λ r. tt)
     (λ c. first-case (λ x. At5 p (x .ending)) (packetTests a p) (refuse s) _ (λ r. tt)
-    (λ d. ends-at _ p _ _ (handled-runs (layout t) busy (message p) s)))
+    (λ d. ends-at _ p _ _ (handled-runs (layout t) busy (message p) s))))
 
 pub input-at-5 : (t : Table) (a : Place) (busy room : ℕ) (p : List ℕ) (s : State) (f : FunctionNumber) (i : List ℕ) (due : Bool)
     → packet t a busy room p s .ending ≡ run f i due → i ≡ take (length i) (drop 5 p)

@@ -4,9 +4,9 @@ use mathlib.Core.Bool.{Bool, true, false}
 use mathlib.Core.List.{List}
 use Prim.Native.Nat.{ℕ}
 use native.Mathlib.Omega.{arith}
-use Rattle.bsmp.specs.Board.{Table, Layout, layout, State, blockSizes, usable}
+use Rattle.bsmp.specs.Board.{Table, Layout, layout, State, blockSizes, faults}
 use Rattle.bsmp.specs.Message.{Said, replies, runs, carried, stateAfter, handled, asked, judge}
-use Rattle.bsmp.specs.Packet.{Place, Ending, reply, silence, run, refuse, ends, boardTests, packetTests, packet, resultTests, functionResult, storeTests, boardStore, isOwn, destination}
+use Rattle.bsmp.specs.Packet.{Place, Ending, reply, silence, run, refuse, ends, placeTests, packetTests, served, packet, resultTests, functionResult, storeTests, boardStore, isOwn, destination}
 use Rattle.bsmp.specs.Store.{Lent, held, lentOf, outcomeOf, shown}
 use Rattle.bsmp.specs.Apart.{Event, arrives, returns, stores, happen, Call, eventOf, bufferOf, leftBy}
 use Rattle.bsmp.specs.declared.Refusal.{Refusal}
@@ -36,17 +36,19 @@ silence-allowed r h = let z : _≡_ {A = ℕ} 0 1 = cc in absurd (omega arith)
 
 -- "A local refusal returns its number only and changes no byte of any store, group table"
 pub refusal-keeps : (t : Table) (a : Place) (e : Event) (s : State) (r : Refusal) → happen t a e s .ending ≡ Ending.refused r → happen t a e s .state ≡ s
-unfolding packet functionResult boardStore
+unfolding packet served functionResult boardStore
 refusal-keeps t a (arrives busy room p) s r =
-    first-case (λ x. x .ending ≡ Ending.refused r → x .state ≡ s) (boardTests (usable t s) a room) (refuse s) _ (λ m h. refl)
+    first-case (λ x. x .ending ≡ Ending.refused r → x .state ≡ s) (faults t s) (refuse s) _ (λ m h. refl)
+    (λ b. first-case (λ x. x .ending ≡ Ending.refused r → x .state ≡ s) (placeTests a room) (refuse s) _ (λ m h. refl)
     (λ c. first-case (λ x. x .ending ≡ Ending.refused r → x .state ≡ s) (packetTests a p) (refuse s) _ (λ m h. refl)
-    (λ d h. absurd (ends-allowed _ _ r h)))
+    (λ d h. absurd (ends-allowed _ _ r h))))
 refusal-keeps t a (returns room f due ran) s r =
-    first-case (λ x. x .ending ≡ Ending.refused r → x .state ≡ s) (resultTests (usable t s) (layout t) room f ran) (refuse s) _ (λ m h. refl)
-    (λ c h. refl)
+    first-case (λ x. x .ending ≡ Ending.refused r → x .state ≡ s) (faults t s) (refuse s) _ (λ m h. refl)
+    (λ b. first-case (λ x. x .ending ≡ Ending.refused r → x .state ≡ s) (resultTests (layout t) room f ran) (refuse s) _ (λ m h. refl) (λ c h. refl))
 refusal-keeps t a (stores i b) s r =
-    first-case (λ x. x .ending ≡ Ending.refused r → x .state ≡ s) (storeTests (usable t s) (layout t) i b) (refuse s) _ (λ m h. refl)
-    (λ c h. absurd (silence-allowed r h))
+    first-case (λ x. x .ending ≡ Ending.refused r → x .state ≡ s) (faults t s) (refuse s) _ (λ m h. refl)
+    (λ d. first-case (λ x. x .ending ≡ Ending.refused r → x .state ≡ s) (storeTests (layout t) i b) (refuse s) _ (λ m h. refl)
+    (λ c h. absurd (silence-allowed r h)))
 
 pub outcome-refused : (e : Ending) (r : Refusal) → outcomeOf e ≡ Refused r → e ≡ Ending.refused r
 outcome-refused (reply b) r h = cc
@@ -78,7 +80,8 @@ not-due (runs f i) r h = let z : _≡_ {A = ℕ} 0 1 = cc in absurd (omega arith
 
 pub never-answered : (t : Table) (a : Place) (busy room : ℕ) (p : List ℕ) (s : State) → isOwn a (destination p) ≡ false
     → (r : List ℕ) → packet t a busy room p s .ending ≡ reply r → ⊥
-unfolding packet
+unfolding packet served
 never-answered t a busy room p s h =
-    first-case (λ x. Unanswered (x .ending)) (boardTests (usable t s) a room) (refuse s) _ refused-unanswered
-    (λ c. first-case (λ x. Unanswered (x .ending)) (packetTests a p) (refuse s) _ refused-unanswered (λ d. rw h (not-due _)))
+    first-case (λ x. Unanswered (x .ending)) (faults t s) (refuse s) _ refused-unanswered
+    (λ b. first-case (λ x. Unanswered (x .ending)) (placeTests a room) (refuse s) _ refused-unanswered
+    (λ c. first-case (λ x. Unanswered (x .ending)) (packetTests a p) (refuse s) _ refused-unanswered (λ d. rw h (not-due _))))

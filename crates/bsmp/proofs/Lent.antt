@@ -16,8 +16,9 @@ use Rattle.bsmp.specs.Apart.{Alike, happen, reads, answerOf, endings, la
 use Rattle.bsmp.specs.Apart.{Call, eventOf, bufferOf, leftBy, Seen, answerIn, seenOf, seenAll, lentAfter, LentAlike}
 use Rattle.bsmp.specs.declared.VariableNumber.{VariableNumber}
 use Rattle.bsmp.proofs.Store.{join-cut, piece, sum-lengths}
+use Rattle.bsmp.proofs.Usable.{usable-parts}
 use Rattle.bsmp.proofs.Apart.{step, before}
-use Rattle.bsmp.proofs.Stays.{kept, stays, later-usable, held-again}
+use Rattle.bsmp.proofs.Stays.{stays, later-usable, held-again}
 
 -- a variable's bytes in the store are its value
 value-in : (l : Layout) (x : Lent) (i : VariableNumber) → i .0 < length (l .sizes) → valueOf (held l x) i ≡ bytesIn l (x .values) i
@@ -45,7 +46,7 @@ module _ (t : Table) (v : VariableNumber) where
   L = layout t
 
   values-kept : (x : Lent) → usable t (held L x) ≡ true → map length (held L x .values) ≡ L .sizes
-  values-kept x h = kept t (held L x) h .values
+  values-kept x h = usable-parts t (held L x) h .values
 
   past-end : (x : Lent) → usable t (held L x) ≡ true → (i : VariableNumber) → length (L .sizes) ≤ i .0 → valueOf (held L x) i ≡ []
   past-end x h i k =

@@ -3,6 +3,7 @@ pub mod Bools
 pub mod Lists
 pub mod Chain
 pub mod Store
+pub mod Usable
 pub mod Marks
 pub mod Examples
 pub mod Steps

@@ -8,9 +8,9 @@ use lib.ListN.{drop}
 use borrow.Author.Tests.{eq-eqb}
 use Rattle.bsmp.specs.Base.{some, first, Test, byteAt}
 use Rattle.bsmp.specs.Codes.{commandOf}
-use Rattle.bsmp.specs.Board.{Table, Layout, layout, State, isSame, members, usable}
+use Rattle.bsmp.specs.Board.{Table, Layout, layout, State, isSame, members, usable, faults}
 use Rattle.bsmp.specs.Message.{line, judge, asked, variableAt, groupAt}
-use Rattle.bsmp.specs.Packet.{Place, boardTests, packetTests, isOwn, destination, message}
+use Rattle.bsmp.specs.Packet.{Place, placeTests, packetTests, isOwn, destination, message}
 use Rattle.bsmp.specs.Apart.{Alike, Event, arrives, returns, stores, tells, readBy, readsIn, reads}
 use Rattle.bsmp.specs.declared.VariableNumber.{VariableNumber}
 use Rattle.bsmp.specs.declared.Refusal.{Refusal}
@@ -21,12 +21,13 @@ use Rattle.bsmp.specs.declared.Check.{Check}
 use Rattle.bsmp.specs.declared.Check.the-variants.{Pass, Fail}
 use Rattle.bsmp.proofs.Bools.{and-true}
 use Rattle.bsmp.proofs.Chain.{clear, first-clear}
-use Rattle.bsmp.proofs.Apart.{usable-alike, same-number}
+use Rattle.bsmp.proofs.Usable.{clear-usable, usable-clear}
+use Rattle.bsmp.proofs.Apart.{faults-alike, same-number}
 
 pub reads-same : (t : Table) (a : Place) (v : VariableNumber) (e : Event) (s₁ s₂ : State) → Alike v s₁ s₂ → reads t a v e s₁ ≡ reads t a v e s₂
 reads-same t a v (arrives busy room p) s₁ s₂ h =
-    ap₂ (λ ok gs. first (boardTests ok a room) (λ r. false) (first (packetTests a p) (λ r. false) (isOwn a (destination p) && readsIn (layout t) gs busy (message p) v)))
-    (usable-alike t v s₁ s₂ h) (h .groups)
+    ap₂ (λ fs gs. first fs (λ r. false) (first (placeTests a room) (λ r. false) (first (packetTests a p) (λ r. false) (isOwn a (destination p) && readsIn (layout t) gs busy (message p) v))))
+    (faults-alike t v s₁ s₂ h) (h .groups)
 reads-same t a v (returns room f due r) s₁ s₂ h = refl
 reads-same t a v (stores i b) s₁ s₂ h = refl
 
@@ -39,7 +40,8 @@ Way l gs v p k =
 
 -- an answered, accepted 10 of it, 12 of a group that has it, or 28 whose second variable it is
 pub record ReadsIt (t : Table) (a : Place) (v : VariableNumber) (busy room : ℕ) (p : List ℕ) (s : State) : Type 0 where
-  pub board : clear (boardTests (usable t s) a room)
+  pub board : usable t s ≡ true
+  pub place : clear (placeTests a room)
   pub opened : clear (packetTests a p)
   pub due : isOwn a (destination p) ≡ true
   pub accepted : judge (layout t) (s .groups) busy (message p) ≡ Pass
@@ -103,14 +105,16 @@ module _ (t : Table) (a : Place) (v : VariableNumber) (busy room : ℕ) (p : Lis
     where
       there : reads t a v (arrives busy room p) s ≡ true → ReadsIt t a v busy room p s
       there h =
-          let x = first-true (boardTests (usable t s) a room) _ h in
+          let b = first-true (faults t s) _ h in
+          let x = first-true (placeTests a room) _ (b .1) in
           let y = first-true (packetTests a p) _ (x .1) in
           let z = and-true (isOwn a (destination p)) _ (y .1) in
           let w = read-accepted (layout t) (s .groups) v (message p) _ (z .1) in
-          record { board = x .0; opened = y .0; due = z .0; accepted = w .0; way = w .1 }
+          record { board = clear-usable t s (b .0); place = x .0; opened = y .0; due = z .0; accepted = w .0; way = w .1 }
 
       back : ReadsIt t a v busy room p s → reads t a v (arrives busy room p) s ≡ true
       back r =
-          first-clear (boardTests (usable t s) a room) (λ q. false) _ (r .board)
+          first-clear (faults t s) (λ q. false) _ (usable-clear t s (r .board))
+          ∙ first-clear (placeTests a room) (λ q. false) _ (r .place)
           ∙ first-clear (packetTests a p) (λ q. false) _ (r .opened)
           ∙ rw (r .due, r .accepted) (way-tells (layout t) (s .groups) v (drop 3 (message p)) (commandOf (byteAt (message p) 0)) (r .way))

@@ -10,9 +10,9 @@ use borrow.Author.Tests.{leb-true, ltb-true, eqb-true, not-false}
 use Rattle.bsmp.specs.Base.{all, every, sum, join, upFrom, within, byteAt, wordAt}
 use Rattle.bsmp.specs.Codes.{errorCode, commandOf}
 use Rattle.bsmp.specs.Board.{variable, group, curve, Table, Layout, layout, State, valueOf, blockOf, inGroup, sizesOf, sizeOf, variables, members, blankCurve, blankFunction, curveOf, blockPlace, functionOf}
-use Rattle.bsmp.specs.Board.{variableRules, usableCurve, curveRules, rules, usable, usableVariables, usableCurves, usableFunctions, usableGroups}
-use Rattle.bsmp.specs.Message.{Answer, say, tell, show, call, variableList, groupList, curveRecord, curveList, functionList, Line, line, asked, after, told, replies, spoken, stateAfter, said, carried, handled}
-use Rattle.bsmp.specs.Packet.{Place, Ending, reply, silence, run, refuse, checksum, body, frame, ends, boardTests, packetTests, packet, Ran, gave, failed, badOutput, ranSays, resultTests, functionResult, storeTests, boardStore, message}
+use Rattle.bsmp.specs.Board.{variableRules, usableCurve, curveRules, usable, faults, usableVariables, usableCurves, usableFunctions, usableGroups}
+use Rattle.bsmp.specs.Message.{Answer, say, tell, show, call, variableList, groupList, curveRecord, curveList, functionList, Line, testsOf, line, messageOf, asked, after, told, replies, spoken, stateAfter, said, carried, handled}
+use Rattle.bsmp.specs.Packet.{Place, Ending, reply, silence, run, refuse, checksum, packed, frame, ends, placeTests, packetTests, served, packet, Ran, gave, failed, badOutput, ranSays, resultTests, functionResult, storeTests, boardStore, message}
 use Rattle.bsmp.specs.Apart.{Event, arrives, returns, stores, happen}
 use Rattle.bsmp.specs.declared.VariableNumber.{VariableNumber}
 use Rattle.bsmp.specs.declared.GroupNumber.{GroupNumber}
@@ -25,7 +25,8 @@ use Rattle.bsmp.specs.declared.Command.the-variants.{MaskVariable, MaskG
 use Rattle.bsmp.proofs.Bools.{and-true, all-at}
 use Rattle.bsmp.proofs.Lists.{map-map, sum-append, every-at, length-upFrom, map-numbers, only-length, only-sum}
 use Rattle.bsmp.proofs.Chain.{clear, clear-at, broken-at, first-case}
-use Rattle.bsmp.proofs.Stays.{Kept, kept, value-length, block-length, line-fits, after-usable, judge-case}
+use Rattle.bsmp.proofs.Usable.{Usable, usable-parts, clear-usable}
+use Rattle.bsmp.proofs.Stays.{value-length, block-length, line-fits, after-usable, judge-case}
 
 -- groups: no more members than there are variables, and no more bytes than they have -----------------------------------------
 count-variables : (l : Layout) → length (variables l) ≡ length (l .sizes)
@@ -43,7 +44,7 @@ unfolding members
 group-bytes l gs g = rw (all-sizes l) at (only-sum (sizeOf l) (inGroup (l .writable) gs g) (variables l))
 
 -- the bytes told of some variables
-pub told-bytes : (t : Table) (s : State) → Kept t s → (is : List VariableNumber) → length (told (s .values) is) ≡ sum (map (sizeOf (layout t)) is)
+pub told-bytes : (t : Table) (s : State) → Usable t s → (is : List VariableNumber) → length (told (s .values) is) ≡ sum (map (sizeOf (layout t)) is)
 unfolding told sum
 told-bytes t s u [] = refl
 told-bytes t s u (i ∷ is) = length-append (valueOf s i) (told (s .values) is) ∙ ap₂ _+_ (value-length t s u i) (told-bytes t s u is)
@@ -72,11 +73,12 @@ output-limit fs i h k =
     leb-true _ _ (and-true (leb (x .input) 15) (leb (x .output) 15) (every-at (λ f. leb (f .input) 15 && leb (f .output) 15) fs i _ h k) .1)
 
 pub limits : (t : Table) (s : State) → usable t s ≡ true → Limits t s
-unfolding usable usableVariables usableCurves usableFunctions usableGroups
+unfolding usableVariables usableCurves usableFunctions usableGroups
 limits t s h =
-    let v : all (variableRules (t .variables)) ≡ true = all-at (rules t s) h 0 in
-    let c : all (curveRules (t .curves)) ≡ true = all-at (rules t s) h 2 in
-    let f = and-true (leb (length (t .functions)) 16) _ (all-at (rules t s) h 4) in
+    let u = usable-parts t s h in
+    let v : all (variableRules (t .variables)) ≡ true = u .variables in
+    let c : all (curveRules (t .curves)) ≡ true = u .curves in
+    let f = and-true (leb (length (t .functions)) 16) _ (u .functions) in
     record {
       variables = leb-true _ _ (and-true (leb 1 (length (t .variables))) _ (all-at (variableRules (t .variables)) v 0) .1);
       bytes = leb-true _ _ (all-at (variableRules (t .variables)) v 2);
@@ -84,7 +86,7 @@ limits t s h =
       block = λ i k. block-limit (t .curves) i (all-at (curveRules (t .curves)) c 1) k;
       functions = leb-true _ _ (f .0);
       output = λ i k. output-limit (t .functions) i (f .1) k;
-      groups = leb-true _ _ (and-true (leb (length (s .groups)) 5) _ (all-at (rules t s) h 5) .0);
+      groups = leb-true _ _ (and-true (leb (length (s .groups)) 5) _ (u .groups) .0);
     }
 
 -- answers whose payload fits --------------------------------------------------------------------------------------------------
@@ -112,7 +114,7 @@ module _ (t : Table) (s : State) (busy : ℕ) (p : List ℕ) (h : usable t s ≡
   abbrev row : Command → Line
   row k = line (layout t) (s .groups) p k
 
-  line-small : (k : Command) → clear (row k .tests busy) → Small t (after (row k .change) s) (row k .answer)
+  line-small : (k : Command) → clear (testsOf (row k) busy) → Small t (after (row k .change) s) (row k .answer)
   unfolding line after variableList groupList curveList functionList
   line-small Version c = lit≤ tt
   line-small ListVariables c = simp (length-map, length-upFrom) (omega (arith, limits t s h))
@@ -131,11 +133,11 @@ module _ (t : Table) (s : State) (busy : ℕ) (p : List ℕ) (h : usable t s ≡
   line-small MakeGroup c = lit≤ tt
   line-small RemoveGroups c = lit≤ tt
   line-small ReadBlock c =
-      let at : (j : ℕ) → broken-at (row ReadBlock .tests busy) j ≡ false = clear-at (row ReadBlock .tests busy) c in
+      let at : (j : ℕ) → broken-at (testsOf (row ReadBlock) busy) j ≡ false = clear-at (testsOf (row ReadBlock) busy) c in
       let three : length p ≡ 3 = eqb-true _ _ (not-false _ (at 0)) in
       let known : byteAt p 0 < length (t .curves) = ltb-true _ _ (not-false _ (at 1)) in
       let b : length (blockOf s (blockPlace (layout t) (curve (byteAt p 0)) (wordAt p 1))) ≡ curveOf (layout t) (curve (byteAt p 0)) .size =
-      block-length t s (kept t s h) (curve (byteAt p 0)) (wordAt p 1) known (ltb-true _ _ (not-false _ (at 2))) in
+      block-length t s (usable-parts t s h) (curve (byteAt p 0)) (wordAt p 1) known (ltb-true _ _ (not-false _ (at 2))) in
       omega (arith, limits t s h .block (byteAt p 0) known)
   line-small WriteBlock c = lit≤ tt
   line-small RunFunction c = tt
@@ -152,9 +154,13 @@ WellSent silence = Unit {0}
 WellSent (run f i due) = Unit {0}
 WellSent (Ending.refused n) = Unit {0}
 
+pub packed-sum : (d : ℕ) (m : List ℕ) → sum (packed d m) % 256 ≡ 0
+unfolding sum
+packed-sum d m = rw (sum-append (d ∷ m) (checksum (d ∷ m) ∷ [])) (omega arith)
+
 frame-sum : (c : ℕ) (p : List ℕ) → sum (frame c p) % 256 ≡ 0
-unfolding frame sum
-frame-sum c p = rw (sum-append (body c p) (checksum (body c p) ∷ [])) (omega arith)
+unfolding frame
+frame-sum c p = packed-sum 0 (messageOf c p)
 
 frame-length : (c : ℕ) (p : List ℕ) → length (frame c p) ≡ length p + 5
 unfolding frame
@@ -165,7 +171,7 @@ unfolding ends
 ends-well true c p h = (rw (frame-length c p) (omega arith), frame-sum c p)
 ends-well false c p h = tt
 
-spoken-well : (t : Table) (s : State) (due : Bool) (an : Answer) → Kept t s → Small t s an → WellSent (ends due (spoken an s))
+spoken-well : (t : Table) (s : State) (due : Bool) (an : Answer) → Usable t s → Small t s an → WellSent (ends due (spoken an s))
 unfolding spoken ends
 spoken-well t s due (say c p) u h = ends-well due c p h
 spoken-well t s due (tell c is) u h = ends-well due c (told (s .values) is) (rw (told-bytes t s u is) h)
@@ -178,7 +184,7 @@ handled-well t busy m s due h =
     let l : Line = asked (layout t) (s .groups) m in
     judge-case (layout t) (s .groups) busy m (λ v. WellSent (ends due (carried l v s .says))) (λ e. ends-well due (errorCode e) [] (lit≤ tt))
     (λ c. spoken-well t (after (l .change) s) due (l .answer)
-    (kept t _ (after-usable t s (l .change) h (line-fits t s busy (drop 3 m) h (commandOf (byteAt m 0)) c)))
+    (usable-parts t _ (after-usable t s (l .change) h (line-fits t s busy (drop 3 m) h (commandOf (byteAt m 0)) c)))
     (line-small t s busy (drop 3 m) h (commandOf (byteAt m 0)) c))
 
 ran-well : (t : Table) (s : State) (f : FunctionNumber) (due : Bool) (r : Ran) → usable t s ≡ true → f .0 < length (t .functions)
@@ -188,16 +194,23 @@ ran-well t s f due (gave out) h k b =
     ends-well due 0x51 out (omega (arith, limits t s h .output (f .0) k))
 ran-well t s f due (failed x) h k b = ends-well due 0x53 (x ∷ []) (lit≤ tt)
 
+served-well : (t : Table) (busy : ℕ) (due : Bool) (m : List ℕ) (s : State) → usable t s ≡ true → WellSent (served (layout t) busy due m s .ending)
+unfolding served
+served-well t busy due m s h = handled-well t busy m s due h
+
 -- every reply that an event gives
 pub well-sent : (t : Table) (a : Place) (e : Event) (s : State) → WellSent (happen t a e s .ending)
 unfolding packet functionResult boardStore
 well-sent t a (arrives busy room p) s =
-    first-case (λ r. WellSent (r .ending)) (boardTests (usable t s) a room) (refuse s) _ (λ n. tt)
+    first-case (λ r. WellSent (r .ending)) (faults t s) (refuse s) _ (λ n. tt)
+    (λ b. first-case (λ r. WellSent (r .ending)) (placeTests a room) (refuse s) _ (λ n. tt)
     (λ c. first-case (λ r. WellSent (r .ending)) (packetTests a p) (refuse s) _ (λ n. tt)
-    (λ d. handled-well t busy (message p) s _ (not-false _ (clear-at (boardTests (usable t s) a room) c 0))))
+    (λ d. served-well t busy _ (message p) s (clear-usable t s b))))
 well-sent t a (returns room f due r) s =
-    first-case (λ x. WellSent (x .ending)) (resultTests (usable t s) (layout t) room f r) (refuse s) _ (λ n. tt)
-    (λ c. let at : (j : ℕ) → broken-at (resultTests (usable t s) (layout t) room f r) j ≡ false = clear-at (resultTests (usable t s) (layout t) room f r) c in
-    ran-well t s f due r (not-false _ (at 0)) (ltb-true _ _ (not-false _ (at 2))) (at 3))
+    first-case (λ x. WellSent (x .ending)) (faults t s) (refuse s) _ (λ n. tt)
+    (λ b. first-case (λ x. WellSent (x .ending)) (resultTests (layout t) room f r) (refuse s) _ (λ n. tt)
+    (λ c. let at : (j : ℕ) → broken-at (resultTests (layout t) room f r) j ≡ false = clear-at (resultTests (layout t) room f r) c in
+    ran-well t s f due r (clear-usable t s b) (ltb-true _ _ (not-false _ (at 1))) (at 2)))
 well-sent t a (stores i b) s =
-    first-case (λ x. WellSent (x .ending)) (storeTests (usable t s) (layout t) i b) (refuse s) _ (λ n. tt) (λ c. tt)
+    first-case (λ x. WellSent (x .ending)) (faults t s) (refuse s) _ (λ n. tt)
+    (λ c. first-case (λ x. WellSent (x .ending)) (storeTests (layout t) i b) (refuse s) _ (λ n. tt) (λ d. tt))

@@ -12,9 +12,9 @@ use borrow.Author.Tests.{eq-eqb, eqb-true, leb-true, leb-false, ltb-true, not-fa
 use Rattle.bsmp.specs.Base.{some, all, every, sum, join, cut, byteAt, wordAt, upFrom}
 use Rattle.bsmp.specs.Codes.{commandOf}
 use Rattle.bsmp.specs.Board.{variable, curve, Table, Layout, layout, State, valueOf, blockOf, sizesOf, sizeOf, variables, isSame, groupBytes, setOf, blankCurve, curveOf, blockSizes, blockPlace}
-use Rattle.bsmp.specs.Board.{rules, usable, usableGroups}
-use Rattle.bsmp.specs.Message.{Change, nothing, edit, fill, regroup, writesVariable, writesGroup, Line, line, check, formTests, judge, asked, changed, edited, filled, after, stateAfter, carried, handled}
-use Rattle.bsmp.specs.Packet.{Place, refuse, boardTests, packetTests, packet, resultTests, functionResult, storeTests, boardStore, message}
+use Rattle.bsmp.specs.Board.{withValues, withBlocks, usable, usableGroups, faults}
+use Rattle.bsmp.specs.Message.{Change, nothing, edit, fill, regroup, writesVariable, writesGroup, Line, testsOf, line, check, formTests, judge, asked, changed, edited, filled, after, stateAfter, carried, handled}
+use Rattle.bsmp.specs.Packet.{Place, refuse, placeTests, packetTests, served, packet, resultTests, functionResult, storeTests, boardStore, message}
 use Rattle.bsmp.specs.Store.{held, lentOf}
 use Rattle.bsmp.specs.Apart.{Event, arrives, returns, stores, happen, later}
 use Rattle.bsmp.specs.declared.VariableNumber.{VariableNumber}
@@ -28,10 +28,11 @@ use Rattle.bsmp.specs.declared.Command.the-variants.{MaskVariable, MaskG
 use Rattle.bsmp.specs.declared.WireError.{WireError}
 use Rattle.bsmp.specs.declared.Check.{Check}
 use Rattle.bsmp.specs.declared.Check.the-variants.{Pass, Fail}
-use Rattle.bsmp.proofs.Bools.{or-false, and-true, all-at}
+use Rattle.bsmp.proofs.Bools.{or-false, and-true}
 use Rattle.bsmp.proofs.Lists.{map-set, map-map, every-last, length-upFrom}
 use Rattle.bsmp.proofs.Chain.{clear, clear-at, broken-at, first-case}
-use Rattle.bsmp.proofs.Store.{cut-join, lengths-cut, same-eq}
+use Rattle.bsmp.proofs.Store.{cut-join, lengths-cut}
+use Rattle.bsmp.proofs.Usable.{Usable, usable-parts, usable-by, usable-regrouped}
 use Rattle.bsmp.proofs.Marks.{marks-below, marks-some, at-number}
 
 -- what a change must be to leave a usable board -----------------------------------------------------------------------------
@@ -41,27 +42,7 @@ Fits t s (edit op is ps) = map length ps ≡ map (sizeOf (layout t)) is
 Fits t s (fill k d) = length d ≤ length (blockOf s k)
 Fits t s (regroup gs) = usableGroups (length (t .variables)) gs ≡ true
 
--- usability goes by lengths and groups alone
-usable-by : (t : Table) (s s′ : State) → map length (s .values) ≡ map length (s′ .values) → map length (s .blocks) ≡ map length (s′ .blocks)
-    → s .groups ≡ s′ .groups → usable t s ≡ usable t s′
-unfolding usable
-usable-by t s s′ a b c = rw (a, b, c)
-
--- what a usable board's stores and groups are
-pub record Kept (t : Table) (s : State) : Type 0 where
-  pub values : map length (s .values) ≡ sizesOf (t .variables)
-  pub blocks : map length (s .blocks) ≡ blockSizes (t .curves)
-  pub groups : usableGroups (length (t .variables)) (s .groups) ≡ true
-
-pub kept : (t : Table) (s : State) → usable t s ≡ true → Kept t s
-unfolding usable
-kept t s h = record {
-  values = same-eq _ _ (all-at (rules t s) h 1);
-  blocks = same-eq _ _ (all-at (rules t s) h 3);
-  groups = all-at (rules t s) h 5;
-}
-
-pub value-length : (t : Table) (s : State) → Kept t s → (i : VariableNumber) → length (valueOf s i) ≡ sizeOf (layout t) i
+pub value-length : (t : Table) (s : State) → Usable t s → (i : VariableNumber) → length (valueOf s i) ≡ sizeOf (layout t) i
 value-length t s u i = sym (List·getD-map length (s .values) (i .0) []) ∙ ap (λ l. getD l (i .0) 0) (u .values)
 
 pub changed-length : (op : Operation) (x p : List ℕ) → length p ≡ length x → length (changed op x p) ≡ length x
@@ -82,27 +63,17 @@ edited-lengths l op (i ∷ is) (p ∷ ps) vs u h =
     map-set length vs n _ ∙ ap (set (map length vs) n) (one ∙ sym (List·getD-map length vs n [])) ∙ set-getD (map length vs) n 0 in
     edited-lengths l op is ps _ (same′ ∙ u) (tail-eq-of-cons-eq h) ∙ same′
 
-last-rule : (bs : List Bool) (b c : Bool) → all (bs ++ b ∷ []) ≡ true → c ≡ true → all (bs ++ c ∷ []) ≡ true
-last-rule [] b c h k = rw k
-last-rule (x ∷ xs) b c h k =
-    let w : (x ≡ true) × (all (xs ++ b ∷ []) ≡ true) = and-true x _ h in rw (w .0) (last-rule xs b c (w .1) k)
-
-regrouped : (t : Table) (s : State) (gs : List ℕ) → usable t s ≡ true → usableGroups (length (t .variables)) gs ≡ true
-    → usable t (record { values = s .values; blocks = s .blocks; groups = gs }) ≡ true
-unfolding usable
-regrouped t s gs h k = last-rule (take 5 (rules t s)) (usableGroups (length (t .variables)) (s .groups)) _ h k
-
 pub after-usable : (t : Table) (s : State) (ch : Change) → usable t s ≡ true → Fits t s ch → usable t (after ch s) ≡ true
 unfolding after
 after-usable t s nothing h k = h
-after-usable t s (edit op is ps) h k = usable-by t _ s (edited-lengths (layout t) op is ps (s .values) (kept t s h .values) k) refl refl ∙ h
+after-usable t s (edit op is ps) h k = usable-by t _ s (edited-lengths (layout t) op is ps (s .values) (usable-parts t s h .values) k) refl refl ∙ h
 after-usable t s (fill i d) h k =
     let one : length (filled d (blockOf s i)) ≡ length (blockOf s i) = simp (length-append, length-drop) (omega arith) in
     usable-by t _ s refl
     (map-set length (s .blocks) i _ ∙ ap (set (map length (s .blocks)) i) (one ∙ sym (List·getD-map length (s .blocks) i []))
     ∙ set-getD (map length (s .blocks)) i 0) refl
     ∙ h
-after-usable t s (regroup gs) h k = regrouped t s gs h k
+after-usable t s (regroup gs) h k = usable-regrouped t s gs h k
 
 -- each command's change fits where its tests pass ---------------------------------------------------------------------------
 -- the size of a curve's block
@@ -120,7 +91,7 @@ block-size (x ∷ cs) (suc c) k h l =
     ∙ getD-append-add (replicate (x .blocks) (x .size)) (blockSizes cs) (before + k) 0
     ∙ block-size cs c k (omega (arith, h)) l
 
-pub block-length : (t : Table) (s : State) → Kept t s → (c : CurveNumber) (k : ℕ) → c .0 < length (t .curves) → k < curveOf (layout t) c .blocks
+pub block-length : (t : Table) (s : State) → Usable t s → (c : CurveNumber) (k : ℕ) → c .0 < length (t .curves) → k < curveOf (layout t) c .blocks
     → length (blockOf s (blockPlace (layout t) c k)) ≡ curveOf (layout t) c .size
 block-length t s u c k a b =
     sym (List·getD-map length (s .blocks) (blockPlace (layout t) c k) []) ∙ ap (λ x. getD x (blockPlace (layout t) c k) 0) (u .blocks)
@@ -167,7 +138,7 @@ module _ (t : Table) (s : State) (busy : ℕ) (p : List ℕ) (h : usable t s ≡
   abbrev row : Command → Line
   row k = line (layout t) (s .groups) p k
 
-  pub line-fits : (k : Command) → clear (row k .tests busy) → Fits t s (row k .change)
+  pub line-fits : (k : Command) → clear (testsOf (row k) busy) → Fits t s (row k .change)
   unfolding line writesVariable writesGroup groupBytes
   line-fits Version c = tt
   line-fits ListVariables c = tt
@@ -177,33 +148,33 @@ module _ (t : Table) (s : State) (busy : ℕ) (p : List ℕ) (h : usable t s ≡
   line-fits ListFunctions c = tt
   line-fits ReadVariable c = tt
   line-fits ReadGroup c = tt
-  line-fits WriteVariable c = ap (_∷ []) (drop-rest 1 _ p (clear-at (row WriteVariable .tests busy) c 2))
-  line-fits WriteGroup c = lengths-cut _ _ (drop-rest 1 _ p (clear-at (row WriteGroup .tests busy) c 2))
-  line-fits MaskVariable c = ap (_∷ []) (drop-rest 2 _ p (clear-at (row MaskVariable .tests busy) c 3))
-  line-fits MaskGroup c = lengths-cut _ _ (drop-rest 2 _ p (clear-at (row MaskGroup .tests busy) c 3))
-  line-fits WriteRead c = ap (_∷ []) (drop-rest 2 _ p (clear-at (row WriteRead .tests busy) c 2))
+  line-fits WriteVariable c = ap (_∷ []) (drop-rest 1 _ p (clear-at (testsOf (row WriteVariable) busy) c 2))
+  line-fits WriteGroup c = lengths-cut _ _ (drop-rest 1 _ p (clear-at (testsOf (row WriteGroup) busy) c 2))
+  line-fits MaskVariable c = ap (_∷ []) (drop-rest 2 _ p (clear-at (testsOf (row MaskVariable) busy) c 3))
+  line-fits MaskGroup c = lengths-cut _ _ (drop-rest 2 _ p (clear-at (testsOf (row MaskGroup) busy) c 3))
+  line-fits WriteRead c = ap (_∷ []) (drop-rest 2 _ p (clear-at (testsOf (row WriteRead) busy) c 2))
   line-fits MakeGroup c =
-      let at : (j : ℕ) → broken-at (row MakeGroup .tests busy) j ≡ false = clear-at (row MakeGroup .tests busy) c in
+      let at : (j : ℕ) → broken-at (testsOf (row MakeGroup) busy) j ≡ false = clear-at (testsOf (row MakeGroup) busy) c in
       let e : length (layout t .sizes) ≡ length (t .variables) = length-map (t .variables) (λ v. v .size) in
-      rw e at (new-group (layout t) (s .groups) p (rw e (kept t s h .groups)) (or-false _ _ (at 0) .0) (at 1) (at 3))
+      rw e at (new-group (layout t) (s .groups) p (rw e (usable-parts t s h .groups)) (or-false _ _ (at 0) .0) (at 1) (at 4))
   line-fits RemoveGroups c = no-groups (length (t .variables))
   line-fits ReadBlock c = tt
   line-fits WriteBlock c =
-      let at : (j : ℕ) → broken-at (row WriteBlock .tests busy) j ≡ false = clear-at (row WriteBlock .tests busy) c in
+      let at : (j : ℕ) → broken-at (testsOf (row WriteBlock) busy) j ≡ false = clear-at (testsOf (row WriteBlock) busy) c in
       let d : length (drop 3 p) ≤ curveOf (layout t) (curve (byteAt p 0)) .size =
       rw length-drop (leb-true _ _ (and-true (leb 1 (length p - 3)) _ (not-false _ (at 3)) .1)) in
-      rw (block-length t s (kept t s h) (curve (byteAt p 0)) (wordAt p 1) (ltb-true _ _ (not-false _ (at 1))) (ltb-true _ _ (not-false _ (at 2)))) d
+      rw (block-length t s (usable-parts t s h) (curve (byteAt p 0)) (wordAt p 1) (ltb-true _ _ (not-false _ (at 1))) (ltb-true _ _ (not-false _ (at 2)))) d
   line-fits RunFunction c = tt
   line-fits Unknown c = tt
 
 -- messages, packets, results and stores --------------------------------------------------------------------------------------
 -- where a message passes, all its command's tests do
 pub judge-case : (l : Layout) (gs : List ℕ) (busy : ℕ) (m : List ℕ) (P : Check → Type 0) → ((e : WireError) → P (Fail e))
-    → (clear (asked l gs m .tests busy) → P Pass) → P (judge l gs busy m)
+    → (clear (testsOf (asked l gs m) busy) → P Pass) → P (judge l gs busy m)
 unfolding judge check
 judge-case l gs busy m P f g =
     first-case P (formTests m) Fail (check l gs busy (drop 3 m) (commandOf (byteAt m 0))) f
-    (λ c. first-case P (asked l gs m .tests busy) Fail Pass f g)
+    (λ c. first-case P (testsOf (asked l gs m) busy) Fail Pass f g)
 
 pub handled-usable : (t : Table) (busy : ℕ) (m : List ℕ) (s : State) → usable t s ≡ true → usable t (handled (layout t) busy m s .state) ≡ true
 unfolding handled carried stateAfter
@@ -211,17 +182,23 @@ handled-usable t busy m s h =
     judge-case (layout t) (s .groups) busy m (λ v. usable t (carried (asked (layout t) (s .groups) m) v s .state) ≡ true) (λ e. h)
     (λ c. after-usable t s _ h (line-fits t s busy (drop 3 m) h (commandOf (byteAt m 0)) c))
 
+pub served-usable : (t : Table) (busy : ℕ) (due : Bool) (m : List ℕ) (s : State) → usable t s ≡ true → usable t (served (layout t) busy due m s .state) ≡ true
+unfolding served
+served-usable t busy due m s h = handled-usable t busy m s h
+
 pub stays : (t : Table) (a : Place) (e : Event) (s : State) → usable t s ≡ true → usable t (happen t a e s .state) ≡ true
 unfolding packet functionResult boardStore
 stays t a (arrives busy room p) s h =
-    first-case (λ r. usable t (r .state) ≡ true) (boardTests (usable t s) a room) (refuse s) _ (λ n. h)
-    (λ c. first-case (λ r. usable t (r .state) ≡ true) (packetTests a p) (refuse s) _ (λ n. h) (λ d. handled-usable t busy (message p) s h))
+    first-case (λ r. usable t (r .state) ≡ true) (faults t s) (refuse s) _ (λ n. h)
+    (λ b. first-case (λ r. usable t (r .state) ≡ true) (placeTests a room) (refuse s) _ (λ n. h)
+    (λ c. first-case (λ r. usable t (r .state) ≡ true) (packetTests a p) (refuse s) _ (λ n. h) (λ d. served-usable t busy _ (message p) s h)))
 stays t a (returns room f due r) s h =
-    first-case (λ x. usable t (x .state) ≡ true) (resultTests (usable t s) (layout t) room f r) (refuse s) _ (λ n. h) (λ c. h)
+    first-case (λ x. usable t (x .state) ≡ true) (faults t s) (refuse s) _ (λ n. h)
+    (λ b. first-case (λ x. usable t (x .state) ≡ true) (resultTests (layout t) room f r) (refuse s) _ (λ n. h) (λ c. h))
 stays t a (stores i b) s h =
-    first-case (λ x. usable t (x .state) ≡ true) (storeTests (usable t s) (layout t) i b) (refuse s) _ (λ n. h)
-    (λ c. after-usable t s (edit Replace (i ∷ []) (b ∷ [])) h
-    (ap (_∷ []) (eqb-true _ _ (not-false _ (clear-at (storeTests (usable t s) (layout t) i b) c 2)))))
+    first-case (λ x. usable t (x .state) ≡ true) (faults t s) (refuse s) _ (λ n. h)
+    (λ c. first-case (λ x. usable t (x .state) ≡ true) (storeTests (layout t) i b) (refuse s) _ (λ n. h)
+    (λ d. after-usable t s (edit Replace (i ∷ []) (b ∷ [])) h (ap (_∷ []) (eqb-true _ _ (not-false _ (clear-at (storeTests (layout t) i b) d 1))))))
 
 pub later-usable : (t : Table) (a : Place) (es : List Event) (s : State) → usable t s ≡ true → usable t (later t a es s) ≡ true
 later-usable t a [] s h = h
@@ -230,7 +207,7 @@ later-usable t a (e ∷ es) s h = later-usable t a es (happen t a e s .state) (s
 -- a usable board's stores hold it: its pieces are found again where they were put
 pub held-again : (t : Table) (s : State) → usable t s ≡ true → held (layout t) (lentOf s) ≡ s
 held-again t s h =
-    let u : Kept t s = kept t s h in
-    ap₂ (λ vs bs. record { values = vs; blocks = bs; groups = s .groups })
+    let u : Usable t s = usable-parts t s h in
+    ap₂ (λ vs bs. withBlocks (withValues s vs) bs)
     (ap (λ ns. cut ns (join (s .values))) (sym (u .values)) ∙ cut-join (s .values))
     (ap (λ ns. cut ns (join (s .blocks))) (sym (u .blocks)) ∙ cut-join (s .blocks))

@@ -7,7 +7,7 @@ use lib.ListN.{getD}
 use Rattle.bsmp.specs.Base.{Test, ascending}
 use Rattle.bsmp.specs.Codes.{errorCode}
 use Rattle.bsmp.specs.Board.{Layout}
-use Rattle.bsmp.specs.Message.{line, formTests, writesVariable, writesGroup}
+use Rattle.bsmp.specs.Message.{line, testsOf, formTests, writesVariable, writesGroup}
 use Rattle.bsmp.specs.declared.WireError.{WireError}
 use Rattle.bsmp.specs.declared.Command.{Command}
 use Rattle.bsmp.specs.declared.Command.the-variants.{Version, ListVariables, ListGroups, ShowGroup, ListCurves, ListFunctions, ReadVariable, ReadGroup, WriteVariable, WriteGroup}
@@ -21,7 +21,7 @@ stepCodes = 0 ∷ 0xE1 ∷ 0xE2 ∷ 0xE5 ∷ 0xE3 ∷ 0xE2 ∷ 0xE4 ∷ 0xE5 ∷
 abbrev pub Ordered : List (Test WireError) → Type 0
 Ordered ts = (ascending (map (λ u. u .step) ts) ≡ true) × (map (λ u. errorCode (u .error)) ts ≡ map (λ u. getD stepCodes (u .step) 0) ts)
 
-pub ordered : (l : Layout) (gs : List ℕ) (busy : ℕ) (m p : List ℕ) (k : Command) → Ordered (formTests m ++ line l gs p k .tests busy)
+pub ordered : (l : Layout) (gs : List ℕ) (busy : ℕ) (m p : List ℕ) (k : Command) → Ordered (formTests m ++ testsOf (line l gs p k) busy)
 unfolding line writesVariable writesGroup
 ordered l gs busy m p = elim [
   | Version ↦ (refl, refl)

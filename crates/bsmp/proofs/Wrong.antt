@@ -12,10 +12,10 @@ use lib.Pow.{pow-mono}
 use lib.Seq.{take-at}
 use borrow.Author.Tests.{eq-eqb, eqb-false, le-ltb, lt-ltb, lt-leb, leb-true}
 use Rattle.bsmp.specs.Base.{sum, some, byteAt, word}
-use Rattle.bsmp.specs.Board.{variable, Table, layout, State, setOf, variableRules, rules, usable, usableVariables}
-use Rattle.bsmp.specs.Message.{line, check, judge, spoken, said, stateAfter, after, carried, handled}
+use Rattle.bsmp.specs.Board.{variable, Table, layout, State, withGroups, setOf, variableRules, usable, usableVariables, faults}
+use Rattle.bsmp.specs.Message.{line, messageOf, check, judge, spoken, said, stateAfter, after, carried, handled}
 use Rattle.bsmp.specs.Codes.{commandOf}
-use Rattle.bsmp.specs.Packet.{Place, Ending, reply, silence, refuse, usablePlace, checksum, frame, ends, answered, boardTests, packetTests, packet, message}
+use Rattle.bsmp.specs.Packet.{Place, Ending, reply, silence, refuse, usablePlace, checksum, packed, frame, ends, placeTests, packetTests, served, packet, message}
 use Rattle.bsmp.specs.Number.{inRange, recordOf, readingTests, Reading, is, reading, bytesOf, isBig, kindAt}
 use Rattle.bsmp.specs.Apart.{Event, arrives, answerOf, later}
 use Rattle.bsmp.specs.declared.VariableNumber.{VariableNumber}
@@ -23,6 +23,8 @@ use Rattle.bsmp.specs.declared.Variable.{Variable}
 use Rattle.bsmp.proofs.Bools.{and-true, all-at}
 use Rattle.bsmp.proofs.Lists.{sum-append}
 use Rattle.bsmp.proofs.Chain.{clear, first-clear}
+use Rattle.bsmp.proofs.Usable.{usable-parts, usable-clear}
+use Rattle.bsmp.proofs.Room.{packed-sum}
 use Rattle.bsmp.proofs.Stays.{later-usable}
 use Rattle.bsmp.proofs.Number.{there, length-bytes, reading-size}
 
@@ -32,19 +34,11 @@ pub record Ready (t : Table) (a : Place) (room : ℕ) (s : State) : Type 0 where
   pub place : usablePlace a ≡ true
   pub enough : 4104 ≤ room
 
--- a message to an address
-abbrev pub packed : ℕ → List ℕ → List ℕ
-packed d m = d ∷ m ++ checksum (d ∷ m) ∷ []
-
-packed-sum : (d : ℕ) (m : List ℕ) → sum (packed d m) % 256 ≡ 0
-unfolding sum
-packed-sum d m = rw (sum-append (d ∷ m) (checksum (d ∷ m) ∷ [])) (omega arith)
-
 packed-message : (d : ℕ) (m : List ℕ) → message (packed d m) ≡ m
 packed-message d m = take-at m (checksum (d ∷ m) ∷ []) (length (packed d m) - 2) (simp length-append (omega arith))
 
-board-clear : (t : Table) (a : Place) (room : ℕ) (s : State) → Ready t a room s → clear (boardTests (usable t s) a room)
-board-clear t a room s r = rw (r .board, r .place, le-ltb room 4104 (r .enough))
+place-clear : (t : Table) (a : Place) (room : ℕ) (s : State) → Ready t a room s → clear (placeTests a room)
+place-clear t a room s r = rw (r .place, le-ltb room 4104 (r .enough))
 
 packed-clear : (a : Place) (m : List ℕ) → length m ≤ 4102 → clear (packetTests a (packed (a .own) m))
 packed-clear a m h =
@@ -57,20 +51,17 @@ packed-clear a m h =
     )
 
 pub unicast : (t : Table) (a : Place) (busy room : ℕ) (m : List ℕ) (s : State) → Ready t a room s → length m ≤ 4102
-    → packet t a busy room (packed (a .own) m) s ≡ answered true (handled (layout t) busy m s)
+    → packet t a busy room (packed (a .own) m) s ≡ served (layout t) busy true m s
 unfolding packet
 unicast t a busy room m s r h =
-    first-clear (boardTests (usable t s) a room) (refuse s) _ (board-clear t a room s r)
+    first-clear (faults t s) (refuse s) _ (usable-clear t s (r .board))
+    ∙ first-clear (placeTests a room) (refuse s) _ (place-clear t a room s r)
     ∙ first-clear (packetTests a (packed (a .own) m)) (refuse s) _ (packed-clear a m h)
-    ∙ ap₂ (λ due x. answered due (handled (layout t) busy x s)) (eq-eqb (a .own) (a .own) refl) (packed-message (a .own) m)
+    ∙ ap₂ (λ due x. served (layout t) busy due x s) (eq-eqb (a .own) (a .own) refl) (packed-message (a .own) m)
 
 some-variable : (t : Table) (s : State) → usable t s ≡ true → 1 ≤ length (t .variables)
-unfolding usable usableVariables
-some-variable t s h = leb-true _ _ (and-true (leb 1 (length (t .variables))) _ (all-at (variableRules (t .variables)) (all-at (rules t s) h 0) 0) .0)
-
--- requests: command, SIZE, payload
-abbrev request : ℕ → List ℕ → List ℕ
-request c p = c ∷ word (length p) ++ p
+unfolding usableVariables
+some-variable t s h = leb-true _ _ (and-true (leb 1 (length (t .variables))) _ (all-at (variableRules (t .variables)) (usable-parts t s h .variables) 0) .0)
 
 abbrev versionAnswer : Ending
 versionAnswer = reply (frame 0x01 (2 ∷ 20 ∷ 0 ∷ []))
@@ -80,29 +71,29 @@ abbrev codeOf : Ending → ℕ
 codeOf e = byteAt (answerOf e) 1
 
 module _ (t : Table) (a : Place) (busy room : ℕ) (s : State) (r : Ready t a room s) where
-  version-answered : packet t a busy room (packed (a .own) (request 0x00 [])) s ≡ record { ending = versionAnswer; state = s }
-  unfolding handled carried judge check line said stateAfter spoken after ends commandOf Rattle.bsmp.specs.Base.first
-  version-answered = unicast t a busy room (request 0x00 []) s r (lit≤ tt)
+  version-answered : packet t a busy room (packed (a .own) (messageOf 0x00 [])) s ≡ record { ending = versionAnswer; state = s }
+  unfolding served handled carried judge check line said stateAfter spoken after ends commandOf Rattle.bsmp.specs.Base.first
+  version-answered = unicast t a busy room (messageOf 0x00 []) s r (lit≤ tt)
 
-  groups-removed : packet t a busy room (packed (a .own) (request 0x32 [])) s
-      ≡ record { ending = reply (frame 0xE0 []); state = record { values = s .values; blocks = s .blocks; groups = [] } }
-  unfolding handled carried judge check line said stateAfter spoken after ends commandOf Rattle.bsmp.specs.Base.first
-  groups-removed = unicast t a busy room (request 0x32 []) s r (lit≤ tt)
+  groups-removed : packet t a busy room (packed (a .own) (messageOf 0x32 [])) s
+      ≡ record { ending = reply (frame 0xE0 []); state = withGroups s [] }
+  unfolding served handled carried judge check line said stateAfter spoken after ends commandOf Rattle.bsmp.specs.Base.first
+  groups-removed = unicast t a busy room (messageOf 0x32 []) s r (lit≤ tt)
 
   -- answers E2 to all
   pub not-E2-to-all : ((p : List ℕ) → packet t a busy room p s .ending ≡ reply (frame 0xE2 [])) → ⊥
   unfolding frame
-  not-E2-to-all h = eqb-false 0x01 0xE2 refl (ap codeOf (sym (ap (λ x. x .ending) version-answered) ∙ h (packed (a .own) (request 0x00 []))))
+  not-E2-to-all h = eqb-false 0x01 0xE2 refl (ap codeOf (sym (ap (λ x. x .ending) version-answered) ∙ h (packed (a .own) (messageOf 0x00 []))))
 
   -- sends the same reply always
   pub not-one-reply : (e : Ending) → ((p : List ℕ) → packet t a busy room p s .ending ≡ e) → ⊥
   unfolding frame
   not-one-reply e h =
-      eqb-false 0x01 0xE0 refl (ap codeOf (sym (ap (λ x. x .ending) version-answered) ∙ h (packed (a .own) (request 0x00 []))
-      ∙ sym (h (packed (a .own) (request 0x32 []))) ∙ ap (λ x. x .ending) groups-removed))
+      eqb-false 0x01 0xE0 refl (ap codeOf (sym (ap (λ x. x .ending) version-answered) ∙ h (packed (a .own) (messageOf 0x00 []))
+      ∙ sym (h (packed (a .own) (messageOf 0x32 []))) ∙ ap (λ x. x .ending) groups-removed))
 
-  first-made : s .groups ≡ [] → handled (layout t) busy (request 0x30 (0 ∷ [])) s .state .groups ≡ s .groups ++ setOf (layout t) (variable 0 ∷ []) ∷ []
-  unfolding handled carried judge check line stateAfter after commandOf Rattle.bsmp.specs.Base.first
+  first-made : s .groups ≡ [] → served (layout t) busy true (messageOf 0x30 (0 ∷ [])) s .state .groups ≡ s .groups ++ setOf (layout t) (variable 0 ∷ []) ∷ []
+  unfolding served handled carried judge check line stateAfter after commandOf Rattle.bsmp.specs.Base.first
   first-made none =
       let n : 1 ≤ length (layout t .sizes) = rw (length-map (t .variables) (λ v. v .size)) (some-variable t s (r .board)) in
       let l : length (s .groups) ≡ 0 = ap length none in
@@ -111,24 +102,24 @@ module _ (t : Table) (a : Place) (busy room : ℕ) (s : State) (r : Ready t a ro
   -- changes nothing: then there would be no made groups, and a first one could not be made
   pub not-frozen : ((p : List ℕ) → packet t a busy room p s .state ≡ s) → ⊥
   not-frozen h =
-      let none : s .groups ≡ [] = sym (ap (λ x. x .groups) (sym (ap (λ x. x .state) groups-removed) ∙ h (packed (a .own) (request 0x32 [])))) in
-      let p : List ℕ = packed (a .own) (request 0x30 (0 ∷ [])) in
+      let none : s .groups ≡ [] = sym (ap (λ x. x .groups) (sym (ap (λ x. x .state) groups-removed) ∙ h (packed (a .own) (messageOf 0x32 [])))) in
+      let p : List ℕ = packed (a .own) (messageOf 0x30 (0 ∷ [])) in
       let made : packet t a busy room p s .state .groups ≡ s .groups ++ setOf (layout t) (variable 0 ∷ []) ∷ [] =
-      ap (λ x. x .state .groups) (unicast t a busy room (request 0x30 (0 ∷ [])) s r (lit≤ tt)) ∙ first-made none in
+      ap (λ x. x .state .groups) (unicast t a busy room (messageOf 0x30 (0 ∷ [])) s r (lit≤ tt)) ∙ first-made none in
       let gone : s .groups ++ setOf (layout t) (variable 0 ∷ []) ∷ [] ≡ [] = sym made ∙ ap (λ x. x .groups) (h p) ∙ none in
       let l : length (s .groups ++ setOf (layout t) (variable 0 ∷ []) ∷ []) ≡ 0 = ap length gone in
       omega (arith, simp length-append at l)
 
 -- serves only its first packet: whatever came before, the next request for the version is answered
 pub still-served : (t : Table) (a : Place) (busy room : ℕ) (es : List Event) (s : State) → Ready t a room s
-    → packet t a busy room (packed (a .own) (request 0x00 [])) (later t a es s) .ending ≡ versionAnswer
+    → packet t a busy room (packed (a .own) (messageOf 0x00 [])) (later t a es s) .ending ≡ versionAnswer
 still-served t a busy room es s r =
     ap (λ x. x .ending) (version-answered t a busy room (later t a es s) (record { board = later-usable t a es s (r .board); place = r .place; enough = r .enough }))
 
 pub not-first-only : (t : Table) (a : Place) (busy room : ℕ) (s : State) (p : List ℕ) → Ready t a room s
     → ((q : List ℕ) → packet t a busy room q (packet t a busy room p s .state) .ending ≡ silence) → ⊥
 not-first-only t a busy room s p r h =
-    let e : versionAnswer ≡ silence = sym (still-served t a busy room (arrives busy room p ∷ []) s r) ∙ h (packed (a .own) (request 0x00 [])) in
+    let e : versionAnswer ≡ silence = sym (still-served t a busy room (arrives busy room p ∷ []) s r) ∙ h (packed (a .own) (messageOf 0x00 [])) in
     let z : _≡_ {A = ℕ} 0 1 = cc in absurd (omega arith)
 
 -- a reading that always gives 0: of any variable that a usable board declares as such a number, the bytes of 1 read as 1

@@ -7,9 +7,9 @@ use mathlib.Core.List.{List, [], _∷_, map}
 use Prim.Native.Nat.{ℕ, _<_}
 use lib.ListN.{length, take}
 use Rattle.bsmp.specs.Base.{some, first}
-use Rattle.bsmp.specs.Board.{Table, Layout, layout, State, valueOf, isSame, usable}
+use Rattle.bsmp.specs.Board.{Table, Layout, layout, State, valueOf, isSame, faults}
 use Rattle.bsmp.specs.Message.{Answer, say, tell, show, call, Line, asked, judge}
-use Rattle.bsmp.specs.Packet.{Place, Ending, reply, silence, run, Result, isOwn, destination, message, boardTests, packetTests, packet, Ran, functionResult, boardStore}
+use Rattle.bsmp.specs.Packet.{Place, Ending, reply, silence, run, Result, isOwn, destination, message, placeTests, packetTests, packet, Ran, functionResult, boardStore}
 use Rattle.bsmp.specs.Store.{Lent, held, lentOf, bytesIn, Left, leaves}
 use Rattle.bsmp.specs.declared.VariableNumber.{VariableNumber}
 use Rattle.bsmp.specs.declared.FunctionNumber.{FunctionNumber}
@@ -52,9 +52,10 @@ readsIn l gs busy m v = readBy v (asked l gs m) (judge l gs busy m)
 
 abbrev pub reads : Table → Place → VariableNumber → Event → State → Bool
 reads t a v (arrives busy room p) s =
-    first (boardTests (usable t s) a room) (λ r. false)
+    first (faults t s) (λ r. false)
+    (first (placeTests a room) (λ r. false)
     (first (packetTests a p) (λ r. false)
-    (isOwn a (destination p) && readsIn (layout t) (s .groups) busy (message p) v))
+    (isOwn a (destination p) && readsIn (layout t) (s .groups) busy (message p) v)))
 reads t a v (returns room f due r) s = false
 reads t a v (stores i b) s = false
 

@@ -4,7 +4,7 @@ use mathlib.Core.List.{List, [], _∷_, map}
 use Prim.Native.Nat.{ℕ, _+_, _-_, _*_, _^_}
 use lib.Dec.{leb, ltb, eqb}
 use lib.ListN.{length, take, getD, replicate}
-use Rattle.bsmp.specs.Base.{sum, upFrom, all, every, some, only, join, same, within, has, marksOf}
+use Rattle.bsmp.specs.Base.{sum, upFrom, all, every, some, only, join, same, within, has, marksOf, Test, test}
 use Rattle.bsmp.specs.Codes.{kindOf}
 use Rattle.bsmp.specs.declared.VariableNumber.{VariableNumber}
 use Rattle.bsmp.specs.declared.GroupNumber.{GroupNumber}
@@ -15,6 +15,8 @@ use Rattle.bsmp.specs.declared.Curve.{Curve}
 use Rattle.bsmp.specs.declared.Function.{Function}
 use Rattle.bsmp.specs.declared.Kind.{Kind}
 use Rattle.bsmp.specs.declared.Kind.the-variants.{Plain, Number, Unknown}
+use Rattle.bsmp.specs.declared.Refusal.{Refusal}
+use Rattle.bsmp.specs.declared.Refusal.the-variants.{BoardUnusable}
 
 -- "Variables, groups, curves and functions are each numbered from 0 on their own": a type for each sort of number ----------
 abbrev pub variable : ℕ → VariableNumber
@@ -76,6 +78,16 @@ pub record State : Type 0 where
   pub blocks : List (List ℕ)
   pub groups : List ℕ
 
+-- the same board with other values, other blocks, other made groups
+abbrev pub withValues : State → List (List ℕ) → State
+withValues s vs = record { values = vs; blocks = s .blocks; groups = s .groups }
+
+abbrev pub withBlocks : State → List (List ℕ) → State
+withBlocks s bs = record { values = s .values; blocks = bs; groups = s .groups }
+
+abbrev pub withGroups : State → List ℕ → State
+withGroups s gs = record { values = s .values; blocks = s .blocks; groups = gs }
+
 abbrev pub valueOf : State → VariableNumber → List ℕ
 valueOf s i = getD (s .values) (i .0) []
 
@@ -109,10 +121,6 @@ members l gs g = only (inGroup (l .writable) gs g) (variables l)
 -- the bytes of all members
 unfoldable pub groupBytes : Layout → List ℕ → GroupNumber → ℕ
 groupBytes l gs g = sum (map (sizeOf l) (members l gs g))
-
--- whether a member is marked
-unfoldable pub groupHas : ℕ → Layout → List ℕ → GroupNumber → Bool
-groupHas m l gs g = some (marked m) (members l gs g)
 
 -- "1 is read-only and 2 writable, even if empty"; another is writable exactly if all its members are
 unfoldable pub writableGroup : Layout → List ℕ → GroupNumber → Bool
@@ -184,15 +192,28 @@ unfoldable pub usableGroups : (variables : ℕ) → List ℕ → Bool
 usableGroups n gs = leb (length gs) 5 && every (λ m. ltb 0 m && ltb m (2 ^ n)) gs
 
 -- "stores: exactly the length that the records add up to": each piece has its declared length (and law `store-test`)
+unfoldable pub wholeValues : Table → State → Bool
+wholeValues t s = same (map length (s .values)) (sizesOf (t .variables))
+
+unfoldable pub wholeCurves : Table → State → Bool
+wholeCurves t s = same (map length (s .blocks)) (blockSizes (t .curves))
+
 abbrev pub rules : Table → State → List Bool
 rules t s =
     usableVariables (t .variables)
-    ∷ same (map length (s .values)) (sizesOf (t .variables))
+    ∷ wholeValues t s
     ∷ usableCurves (t .curves)
-    ∷ same (map length (s .blocks)) (blockSizes (t .curves))
+    ∷ wholeCurves t s
     ∷ usableFunctions (t .functions)
     ∷ usableGroups (length (t .variables)) (s .groups)
     ∷ []
 
 unfoldable pub usable : Table → State → Bool
 usable t s = all (rules t s)
+
+-- "board unusable": what breaks a rule, as the entries test it; the readings look at the variable records only
+unfoldable pub faults : Table → State → List (Test Refusal)
+faults t s = test 1 BoardUnusable (not (usable t s)) ∷ []
+
+abbrev pub variableFaults : List Variable → List (Test Refusal)
+variableFaults vs = test 1 BoardUnusable (not (usableVariables vs)) ∷ []

@@ -1,5 +1,6 @@
 -- 01's numbers for commands, operations, kinds, wire errors and local refusals. Assumes nothing.
 use mathlib.Core.Bool.{Bool, true, false, cond}
+use mathlib.Core.List.{List, [], _∷_}
 use Prim.Native.Nat.{ℕ}
 use lib.Dec.{eqb}
 use Rattle.bsmp.specs.declared.Command.{Command}
@@ -15,20 +16,24 @@ use Rattle.bsmp.specs.declared.Refusal.{Refusal}
 use Rattle.bsmp.specs.declared.Refusal.the-variants.{BoardUnusable, BadAddress, ReplyBufferShort, PacketLength, Checksum, NotForThisBoard}
 use Rattle.bsmp.specs.declared.Refusal.the-variants.{NoSuchFunction, OutputLength, NoSuchVariable, WrongByteCount, WrongKind, DoesNotFit}
 
+-- what stands beside a number in a table, or the one that stands for all other numbers
+abbrev pub coded : {A : Type 0} → List (ℕ × A) → A → ℕ → A
+coded [] other n = other
+coded (x ∷ xs) other n = cond (eqb n (x .0)) (x .1) (coded xs other n)
+
 -- "The command codes are these and no others"
 unfoldable pub commandOf : ℕ → Command
-commandOf c =
-    cond (eqb c 0x00) Version (cond (eqb c 0x02) ListVariables (cond (eqb c 0x04) ListGroups (cond (eqb c 0x06) ShowGroup
-    (cond (eqb c 0x08) ListCurves (cond (eqb c 0x0C) ListFunctions (cond (eqb c 0x10) ReadVariable (cond (eqb c 0x12) ReadGroup
-    (cond (eqb c 0x20) WriteVariable (cond (eqb c 0x22) WriteGroup (cond (eqb c 0x24) MaskVariable (cond (eqb c 0x26) MaskGroup
-    (cond (eqb c 0x28) WriteRead (cond (eqb c 0x30) MakeGroup (cond (eqb c 0x32) RemoveGroups (cond (eqb c 0x40) ReadBlock
-    (cond (eqb c 0x41) WriteBlock (cond (eqb c 0x50) RunFunction Unknown)))))))))))))))))
+commandOf = coded (
+    (0x00, Version) ∷ (0x02, ListVariables) ∷ (0x04, ListGroups) ∷ (0x06, ShowGroup) ∷ (0x08, ListCurves) ∷ (0x0C, ListFunctions)
+    ∷ (0x10, ReadVariable) ∷ (0x12, ReadGroup)
+    ∷ (0x20, WriteVariable) ∷ (0x22, WriteGroup) ∷ (0x24, MaskVariable) ∷ (0x26, MaskGroup) ∷ (0x28, WriteRead)
+    ∷ (0x30, MakeGroup) ∷ (0x32, RemoveGroups)
+    ∷ (0x40, ReadBlock) ∷ (0x41, WriteBlock)
+    ∷ (0x50, RunFunction) ∷ []) Unknown
 
 -- "53 set and 4F or turn on the mask's bits; 43 clear turns them off; 54 toggle and 58 xor invert them; 41 and keeps only them"
 unfoldable pub operationOf : ℕ → Operation
-operationOf o =
-    cond (eqb o 0x53) TurnOn (cond (eqb o 0x4F) TurnOn (cond (eqb o 0x43) TurnOff (cond (eqb o 0x54) Invert (cond (eqb o 0x58) Invert
-    (cond (eqb o 0x41) KeepOnly Other)))))
+operationOf = coded ((0x53, TurnOn) ∷ (0x4F, TurnOn) ∷ (0x43, TurnOff) ∷ (0x54, Invert) ∷ (0x58, Invert) ∷ (0x41, KeepOnly) ∷ []) Other
 
 abbrev pub isOther : Operation → Bool
 isOther Replace = false
@@ -44,9 +49,8 @@ noOperation o = isOther (operationOf o)
 
 -- "plain bytes, unsigned or signed; big or little endian": a record has it as a number from 0 to 4
 unfoldable pub kindOf : ℕ → Kind
-kindOf k =
-    cond (eqb k 0) K.Plain (cond (eqb k 1) (K.Number false true) (cond (eqb k 2) (K.Number false false)
-    (cond (eqb k 3) (K.Number true true) (cond (eqb k 4) (K.Number true false) K.Unknown))))
+kindOf = coded (
+    (0, K.Plain) ∷ (1, K.Number false true) ∷ (2, K.Number false false) ∷ (3, K.Number true true) ∷ (4, K.Number true false) ∷ []) K.Unknown
 
 abbrev pub errorCode : WireError → ℕ
 errorCode Malformed = 0xE1

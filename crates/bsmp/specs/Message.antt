@@ -1,6 +1,6 @@
 -- A message: what it asks for, the first error that it meets, what it changes and what is said to it. Nothing here knows how
 -- the message came: addresses and checksums stand above, in Packet. Assumes nothing.
-use mathlib.Core.Bool.{Bool, true, cond, not, _||_}
+use mathlib.Core.Bool.{Bool, true, false, cond, not, _||_}
 use mathlib.Core.List.{List, [], _∷_, _++_, map}
 use Prim.Native.Nat.{ℕ, _+_, _-_, _*_}
 use lib.Dec.{leb, ltb, eqb}
@@ -8,8 +8,8 @@ use lib.Bits.{bitAnd, bitOr, bitXor}
 use lib.ListN.{length, drop, set, getD}
 use Rattle.bsmp.specs.Base.{upFrom, some, join, cut, ascending, within, bit, byteAt, wordAt, word, Test, test, first}
 use Rattle.bsmp.specs.Codes.{commandOf, operationOf, noOperation, errorCode}
-use Rattle.bsmp.specs.Board.{variable, group, curve, function, Layout, State, blockOf, isWritable, sizeOf, marked}
-use Rattle.bsmp.specs.Board.{members, groupBytes, groupHas, writableGroup, groupCount, setOf, curveOf, blockPlace, functionOf}
+use Rattle.bsmp.specs.Board.{variable, group, curve, function, Layout, State, withValues, withBlocks, withGroups, blockOf, isWritable, sizeOf, marked}
+use Rattle.bsmp.specs.Board.{members, groupBytes, writableGroup, groupCount, setOf, curveOf, blockPlace, functionOf}
 use Rattle.bsmp.specs.declared.VariableNumber.{VariableNumber}
 use Rattle.bsmp.specs.declared.GroupNumber.{GroupNumber}
 use Rattle.bsmp.specs.declared.CurveNumber.{CurveNumber}
@@ -112,18 +112,16 @@ noFunction l f = not (ltb (f .0) (length (l .functions)))
 abbrev pub noPayload : List ℕ → List (Test WireError)
 noPayload p = badFront (size≠ p 0) ∷ []
 
-unfoldable pub writesVariable : Layout → List ℕ → ℕ → (busy : Bool) → List (Test WireError)
-writesVariable l p n b =
+unfoldable pub writesVariable : Layout → List ℕ → ℕ → List (Test WireError)
+writesVariable l p n =
     badRest (size≠ p (n + sizeOf l (variableAt p 0)))
     ∷ readOnly (not (marked (l .writable) (variableAt p 0)))
-    ∷ isBusy b
     ∷ []
 
-unfoldable pub writesGroup : Layout → List ℕ → List ℕ → ℕ → (busy : Bool) → List (Test WireError)
-writesGroup l gs p n b =
+unfoldable pub writesGroup : Layout → List ℕ → List ℕ → ℕ → List (Test WireError)
+writesGroup l gs p n =
     badRest (size≠ p (n + groupBytes l gs (groupAt p 0)))
     ∷ readOnly (not (writableGroup l gs (groupAt p 0)))
-    ∷ isBusy b
     ∷ []
 
 abbrev pub blockMissing : Layout → List ℕ → Bool
@@ -151,39 +149,46 @@ unfoldable pub functionList : Layout → List ℕ
 functionList l = map (λ f. f .input * 16 + f .output) (l .functions)
 
 -- 01's table of commands --------------------------------------------------------------------------------------------------
--- a command: the tests that it must pass under the busy marks, in 01's order; what it changes; what it answers
+-- a command: what it must pass first, in 01's order; the variables that must not be busy, which are those that it writes;
+-- whether it finds no place left for a new group; what it changes; what it answers
 pub record Line : Type 0 where
-  pub tests : (busy : ℕ) → List (Test WireError)
+  pub tests : List (Test WireError)
+  pub touches : List VariableNumber
+  pub full : Bool
   pub change : Change
   pub answer : Answer
+
+-- all its tests: "bits .. stop writes only", and E7 comes last
+abbrev pub testsOf : Line → (busy : ℕ) → List (Test WireError)
+testsOf n busy = n .tests ++ isBusy (some (marked busy) (n .touches)) ∷ isFull (n .full) ∷ []
 
 abbrev pub done : Answer
 done = say 0xE0 []
 
--- a command that changes nothing; one without payload too; one that answers E0
-abbrev pub looks : (ℕ → List (Test WireError)) → Answer → Line
-looks ts a = record { tests = ts; change = nothing; answer = a }
+-- a command that changes nothing; one without payload too; one that changes these variables; one that changes no variable
+abbrev pub looks : List (Test WireError) → Answer → Line
+looks ts a = record { tests = ts; touches = []; full = false; change = nothing; answer = a }
 
 abbrev pub asks : List ℕ → Answer → Line
-asks p a = looks (λ busy. noPayload p) a
+asks p a = looks (noPayload p) a
 
-abbrev pub does : (ℕ → List (Test WireError)) → Change → Line
-does ts c = record { tests = ts; change = c; answer = done }
+abbrev pub writes : List (Test WireError) → List VariableNumber → Change → Answer → Line
+writes ts is c a = record { tests = ts; touches = is; full = false; change = c; answer = a }
+
+abbrev pub does : List (Test WireError) → (full : Bool) → Change → Line
+does ts full c = record { tests = ts; touches = []; full = full; change = c; answer = done }
 
 module _ (l : Layout) (gs : List ℕ) (p : List ℕ) where
+  -- the variable named first, and the members of the group named first
+  abbrev pub named : List VariableNumber
+  named = variableAt p 0 ∷ []
+
   abbrev pub groupMembers : List VariableNumber
   groupMembers = members l gs (groupAt p 0)
 
-  -- whether the variable named first, or a member of the group, is busy
-  abbrev pub busyVariable : ℕ → Bool
-  busyVariable busy = marked busy (variableAt p 0)
-
-  abbrev pub busyGroup : ℕ → Bool
-  busyGroup busy = groupHas busy l gs (groupAt p 0)
-
   -- the bytes from n on: all for the one variable, or cut up for the group's members
   abbrev pub editVariable : Operation → ℕ → Change
-  editVariable op n = edit op (variableAt p 0 ∷ []) (drop n p ∷ [])
+  editVariable op n = edit op named (drop n p ∷ [])
 
   abbrev pub editGroup : Operation → ℕ → Change
   editGroup op n = edit op groupMembers (cut (map (sizeOf l) groupMembers) (drop n p))
@@ -192,51 +197,49 @@ module _ (l : Layout) (gs : List ℕ) (p : List ℕ) where
   line Version = asks p (say 0x01 (2 ∷ 20 ∷ 0 ∷ []))
   line ListVariables = asks p (say 0x03 (variableList l))
   line ListGroups = asks p (say 0x05 (groupList l gs))
-  line ShowGroup = looks (λ busy. badFront (size≠ p 1) ∷ missing (noGroup gs (groupAt p 0)) ∷ []) (say 0x07 (map (λ i. i .0) groupMembers))
+  line ShowGroup = looks (badFront (size≠ p 1) ∷ missing (noGroup gs (groupAt p 0)) ∷ []) (say 0x07 (map (λ i. i .0) groupMembers))
   line ListCurves = asks p (say 0x09 (curveList l))
   line ListFunctions = asks p (say 0x0D (functionList l))
-  line ReadVariable = looks (λ busy. badFront (size≠ p 1) ∷ missing (noVariable l (variableAt p 0)) ∷ []) (tell 0x11 (variableAt p 0 ∷ []))
-  line ReadGroup = looks (λ busy. badFront (size≠ p 1) ∷ missing (noGroup gs (groupAt p 0)) ∷ []) (tell 0x13 groupMembers)
-  line WriteVariable =
-      does (λ busy. badFront (size< p 1) ∷ missing (noVariable l (variableAt p 0)) ∷ writesVariable l p 1 (busyVariable busy)) (editVariable Replace 1)
-  line WriteGroup = does (λ busy. badFront (size< p 1) ∷ missing (noGroup gs (groupAt p 0)) ∷ writesGroup l gs p 1 (busyGroup busy)) (editGroup Replace 1)
+  line ReadVariable = looks (badFront (size≠ p 1) ∷ missing (noVariable l (variableAt p 0)) ∷ []) (tell 0x11 named)
+  line ReadGroup = looks (badFront (size≠ p 1) ∷ missing (noGroup gs (groupAt p 0)) ∷ []) (tell 0x13 groupMembers)
+  line WriteVariable = writes (badFront (size< p 1) ∷ missing (noVariable l (variableAt p 0)) ∷ writesVariable l p 1) named (editVariable Replace 1) done
+  line WriteGroup = writes (badFront (size< p 1) ∷ missing (noGroup gs (groupAt p 0)) ∷ writesGroup l gs p 1) groupMembers (editGroup Replace 1) done
   line MaskVariable =
-      does
-      (λ busy. badFront (size< p 2) ∷ missing (noVariable l (variableAt p 0)) ∷ badOperation (noOperation (byteAt p 1)) ∷ writesVariable l p 2 (busyVariable busy))
-      (editVariable (operationOf (byteAt p 1)) 2)
+      writes (badFront (size< p 2) ∷ missing (noVariable l (variableAt p 0)) ∷ badOperation (noOperation (byteAt p 1)) ∷ writesVariable l p 2)
+      named (editVariable (operationOf (byteAt p 1)) 2) done
   line MaskGroup =
-      does (λ busy. badFront (size< p 2) ∷ missing (noGroup gs (groupAt p 0)) ∷ badOperation (noOperation (byteAt p 1)) ∷ writesGroup l gs p 2 (busyGroup busy))
-      (editGroup (operationOf (byteAt p 1)) 2)
-  line WriteRead = record {
-    tests = λ busy. badFront (size< p 2) ∷ missing (noVariable l (variableAt p 0) || noVariable l (variableAt p 1)) ∷ writesVariable l p 2 (busyVariable busy);
-    change = editVariable Replace 2;
-    answer = tell 0x11 (variableAt p 1 ∷ []);
-  }
+      writes (badFront (size< p 2) ∷ missing (noGroup gs (groupAt p 0)) ∷ badOperation (noOperation (byteAt p 1)) ∷ writesGroup l gs p 2)
+      groupMembers (editGroup (operationOf (byteAt p 1)) 2) done
+  line WriteRead =
+      writes (badFront (size< p 2) ∷ missing (noVariable l (variableAt p 0) || noVariable l (variableAt p 1)) ∷ writesVariable l p 2)
+      named (editVariable Replace 2) (tell 0x11 (variableAt p 1 ∷ []))
   line MakeGroup =
       does
-      (λ busy. badFront (size< p 1 || ltb (length (l .sizes)) (length p)) ∷ missing (some (λ i. noVariable l (variable i)) p)
-      ∷ badPlace (not (ascending p)) ∷ isFull (leb 5 (length gs)) ∷ [])
-      (regroup (gs ++ setOf l (map variable p) ∷ []))
-  line RemoveGroups = does (λ busy. noPayload p) (regroup [])
+      (badFront (size< p 1 || ltb (length (l .sizes)) (length p)) ∷ missing (some (λ i. noVariable l (variable i)) p) ∷ badPlace (not (ascending p)) ∷ [])
+      (leb 5 (length gs)) (regroup (gs ++ setOf l (map variable p) ∷ []))
+  line RemoveGroups = does (noPayload p) false (regroup [])
   line ReadBlock =
-      looks (λ busy. badFront (size≠ p 3) ∷ missing (noCurve l (curveAt p 0)) ∷ badPlace (blockMissing l p) ∷ [])
+      looks (badFront (size≠ p 3) ∷ missing (noCurve l (curveAt p 0)) ∷ badPlace (blockMissing l p) ∷ [])
       (show 0x41 p (blockPlace l (curveAt p 0) (wordAt p 1)))
   line WriteBlock =
       does
-      (λ busy. badFront (size< p 3) ∷ missing (noCurve l (curveAt p 0)) ∷ badPlace (blockMissing l p)
+      (badFront (size< p 3) ∷ missing (noCurve l (curveAt p 0)) ∷ badPlace (blockMissing l p)
       ∷ badRest (not (within 1 (curveOf l (curveAt p 0) .size) (length p - 3)))
       ∷ readOnly (not (isWritable (curveOf l (curveAt p 0) .writable))) ∷ [])
-      (fill (blockPlace l (curveAt p 0) (wordAt p 1)) (drop 3 p))
+      false (fill (blockPlace l (curveAt p 0) (wordAt p 1)) (drop 3 p))
   line RunFunction =
-      looks
-      (λ busy. badFront (size< p 1) ∷ missing (noFunction l (functionAt p 0)) ∷ badRest (size≠ p (1 + functionOf l (functionAt p 0) .input)) ∷ [])
+      looks (badFront (size< p 1) ∷ missing (noFunction l (functionAt p 0)) ∷ badRest (size≠ p (1 + functionOf l (functionAt p 0) .input)) ∷ [])
       (call (functionAt p 0) (drop 1 p))
-  line Unknown = looks (λ busy. badCommand true ∷ []) done
+  line Unknown = looks (badCommand true ∷ []) done
 
 -- judged without looking at any value ------------------------------------------------------------------------------------
 -- the first error of a command's tests
 unfoldable pub check : Layout → List ℕ → ℕ → List ℕ → Command → Check
-check l gs busy p k = first (line l gs p k .tests busy) Fail Pass
+check l gs busy p k = first (testsOf (line l gs p k) busy) Fail Pass
+
+-- "A message is command, SIZE in two bytes, then the payload"
+abbrev pub messageOf : ℕ → List ℕ → List ℕ
+messageOf code p = code ∷ word (length p) ++ p
 
 -- "message under 3 bytes, or SIZE not the number of bytes that follow"
 abbrev pub formTests : List ℕ → List (Test WireError)
@@ -276,9 +279,9 @@ filled d block = d ++ drop (length d) block
 
 unfoldable pub after : Change → State → State
 after nothing s = s
-after (edit op is ps) s = record { values = edited op is ps (s .values); blocks = s .blocks; groups = s .groups }
-after (fill k d) s = record { values = s .values; blocks = set (s .blocks) k (filled d (blockOf s k)); groups = s .groups }
-after (regroup gs) s = record { values = s .values; blocks = s .blocks; groups = gs }
+after (edit op is ps) s = withValues s (edited op is ps (s .values))
+after (fill k d) s = withBlocks s (set (s .blocks) k (filled d (blockOf s k)))
+after (regroup gs) s = withGroups s gs
 
 -- the values of these variables, one after another
 unfoldable pub told : List (List ℕ) → List VariableNumber → List ℕ

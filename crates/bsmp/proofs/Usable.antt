@@ -1,0 +1,70 @@
+-- A usable board, part by part and back, and its faults as an entry tests them. Proofs know Board's `rules` and `faults` by these laws alone, so that
+-- a further rule is a further part. Assumes nothing.
+use mathlib.Core.Path.{_≡_, refl, ap, _∙_}
+use mathlib.Core.Bool.{Bool, true, false, not}
+use mathlib.Core.List.{List, [], _∷_, map}
+use Prim.Native.Nat.{ℕ}
+use lib.ListN.{length}
+use borrow.Author.Tests.{not-false}
+use Rattle.bsmp.specs.Base.{first}
+use Rattle.bsmp.specs.Board.{Table, State, withGroups, sizesOf, blockSizes, wholeValues, wholeCurves, rules, usable, usableVariables, usableCurves, usableFunctions, usableGroups, faults}
+use Rattle.bsmp.specs.declared.Refusal.{Refusal}
+use Rattle.bsmp.specs.declared.Refusal.the-variants.{BoardUnusable}
+use Rattle.bsmp.proofs.Bools.{or-false, all-at, not-so}
+use Rattle.bsmp.proofs.Chain.{clear, first-next, first-stop, first-end}
+use Rattle.bsmp.proofs.Store.{same-eq, same-refl}
+
+pub record Usable (t : Table) (s : State) : Type 0 where
+  pub variables : usableVariables (t .variables) ≡ true
+  pub values : map length (s .values) ≡ sizesOf (t .variables)
+  pub curves : usableCurves (t .curves) ≡ true
+  pub blocks : map length (s .blocks) ≡ blockSizes (t .curves)
+  pub functions : usableFunctions (t .functions) ≡ true
+  pub groups : usableGroups (length (t .variables)) (s .groups) ≡ true
+
+module _ (t : Table) (s : State) where
+  pub usable-parts : usable t s ≡ true → Usable t s
+  unfolding usable wholeValues wholeCurves
+  usable-parts h =
+      let at = all-at (rules t s) h in
+      record { variables = at 0; values = same-eq _ _ (at 1); curves = at 2; blocks = same-eq _ _ (at 3); functions = at 4; groups = at 5 }
+
+  pub usable-whole : Usable t s → usable t s ≡ true
+  unfolding usable wholeValues wholeCurves
+  usable-whole u = rw (u .variables, u .values, same-refl (sizesOf (t .variables)), u .curves, u .blocks, same-refl (blockSizes (t .curves)), u .functions, u .groups)
+
+  pub not-usable : (Usable t s → ⊥) → usable t s ≡ false
+  not-usable n = not-so (usable t s) (λ h. n (usable-parts h))
+
+  -- the faults: none on a usable board, refusal 1 on another
+  pub clear-usable : clear (faults t s) → usable t s ≡ true
+  unfolding faults
+  clear-usable c = not-false _ (or-false _ _ c .0)
+
+  pub usable-clear : usable t s ≡ true → clear (faults t s)
+  unfolding faults
+  usable-clear h = rw h
+
+  module _ {B : Type 0} (f : Refusal → B) (ok x : B) where
+    pub faults-none : usable t s ≡ true → x ≡ ok → x ≡ first (faults t s) f ok
+    unfolding faults
+    faults-none h e = first-next _ _ _ _ _ _ _ (ap not h) (first-end f ok x e)
+
+    pub faults-some : usable t s ≡ false → x ≡ f BoardUnusable → x ≡ first (faults t s) f ok
+    unfolding faults
+    faults-some h e = first-stop _ _ _ _ _ _ _ (ap not h) e
+
+-- usability goes by lengths and groups alone
+pub usable-by : (t : Table) (s s′ : State) → map length (s .values) ≡ map length (s′ .values) → map length (s .blocks) ≡ map length (s′ .blocks)
+    → s .groups ≡ s′ .groups → usable t s ≡ usable t s′
+unfolding usable wholeValues wholeCurves
+usable-by t s s′ a b c = rw (a, b, c)
+
+pub faults-by : (t : Table) (s s′ : State) → usable t s ≡ usable t s′ → faults t s ≡ faults t s′
+unfolding faults
+faults-by t s s′ h = rw h
+
+pub usable-regrouped : (t : Table) (s : State) (gs : List ℕ) → usable t s ≡ true → usableGroups (length (t .variables)) gs ≡ true → usable t (withGroups s gs) ≡ true
+usable-regrouped t s gs h k =
+    let u = usable-parts t s h in
+    usable-whole t (withGroups s gs) (record { variables = u .variables; values = u .values; curves = u .curves; blocks = u .blocks; functions = u .functions; groups = k })
