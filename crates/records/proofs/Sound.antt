@@ -1,20 +1,21 @@
 -- What a usable board lets its caller lean on: the bounds of 01's table. Assumes nothing.
-use mathlib.Core.Path.{_≡_, sym, _∙_}
+use mathlib.Core.Path.{_≡_}
 use mathlib.Core.Bool.{Bool, true}
 use mathlib.Core.List.{List, [], _∷_}
 use Prim.Native.Nat.{ℕ, zero, suc, _^_, _≤_, _<_}
 use native.Mathlib.Omega.{arith}
 use lib.Dec.{leb}
 use lib.ListN.{length, getD}
-use borrow.Author.Tests.{leb-true, ltb-true, eqb-true}
+use borrow.Author.Tests.{leb-true, ltb-true}
 use Rattle.bsmp.specs.Base.{sum, every}
-use Rattle.bsmp.specs.Board.{Table, blankCurve, blankFunction, layout, sizesOf, blockSizes, usableVariable, variableRules, usableVariables, usableCurve, curveRules, usableCurves, usableFunctions, usableGroups, rules, usable}
+use Rattle.bsmp.specs.Board.{Table, blankCurve, blankFunction, layout, sizesOf, blockSizes, usableVariable, variableRules, usableVariables, usableCurve, curveRules, usableCurves, usableFunctions, usableGroups, usable}
 use Rattle.bsmp.specs.Store.{Lent, held}
 use Rattle.bsmp.specs.declared.Variable.{Variable}
 use Rattle.bsmp.specs.declared.Curve.{Curve}
 use Rattle.bsmp.specs.declared.Function.{Function}
 use Rattle.bsmp.proofs.Bools.{and-true, all-at}
-use Rattle.bsmp.proofs.Store.{store-test}
+use Rattle.bsmp.proofs.Store.{store-length, lengths-cut}
+use Rattle.bsmp.proofs.Usable.{usable-parts, usable-whole}
 use Rattle.records.specs.Checks.{curveBytes}
 use Rattle.records.proofs.Lending.{noVariable}
 use Rattle.records.proofs.Checks.{inside, variable-rules, curve-rules, usableFunction, usableGroup}
@@ -28,17 +29,26 @@ pub record Sound (t : Table) (x : Lent) : Type 0 where
   pub groups : usableGroups (length (t .variables)) (x .groups) ≡ true
 
 pub usable-sound : (t : Table) (x : Lent) → usable t (held (layout t) x) ≡ true → Sound t x
-unfolding usable
 usable-sound t x u =
-    let at = all-at (rules t (held (layout t) x)) u in
+    let p = usable-parts t (held (layout t) x) u in
     record {
-      variables = at 0;
-      values = eqb-true _ _ (sym (store-test (sizesOf (t .variables)) (x .values)) ∙ at 1);
-      curves = at 2;
-      blocks = eqb-true _ _ (sym (store-test (blockSizes (t .curves)) (x .curves)) ∙ at 3);
-      functions = at 4;
-      groups = at 5;
+      variables = p .variables;
+      values = store-length (sizesOf (t .variables)) (x .values) (p .values);
+      curves = p .curves;
+      blocks = store-length (blockSizes (t .curves)) (x .curves) (p .blocks);
+      functions = p .functions;
+      groups = p .groups;
     }
+
+pub sound-usable : (t : Table) (x : Lent) → Sound t x → usable t (held (layout t) x) ≡ true
+sound-usable t x s = usable-whole t (held (layout t) x) (record {
+  variables = s .variables;
+  values = lengths-cut (sizesOf (t .variables)) (x .values) (s .values);
+  curves = s .curves;
+  blocks = lengths-cut (blockSizes (t .curves)) (x .curves) (s .blocks);
+  functions = s .functions;
+  groups = s .groups;
+})
 
 every-at : {A : Type 0} (f : A → Bool) (xs : List A) (i : ℕ) (d : A) → every f xs ≡ true → i < length xs → f (getD xs i d) ≡ true
 every-at f [] i d u h = absurd (omega (arith, h))

@@ -1,16 +1,17 @@
 -- The whole board's rules as the code meets them, and what the checks' answers tell. Assumes nothing.
 use mathlib.Core.Path.{_≡_, refl, sym, ap, _∙_}
-use mathlib.Core.Bool.{Bool, true, false, not, cond}
+use mathlib.Core.Bool.{Bool, true, false, not, cond, false≢true}
 use mathlib.Core.List.{List}
 use Prim.Native.Nat.{ℕ, _≤_}
-use lib.ListN.{length, take, getD}
-use borrow.Author.Tests.{eq-eqb, ne-eqb, not-true, not-false}
+use lib.ListN.{length, take}
+use borrow.Author.Tests.{not-true, not-false}
 use Rattle.bsmp.specs.Base.{sum}
-use Rattle.bsmp.specs.Board.{Table, layout, sizesOf, writableOf, blockSizes, usableVariables, usableCurves, usableFunctions, usableGroups, rules, usable}
+use Rattle.bsmp.specs.Board.{Table, layout, sizesOf, writableOf, blockSizes, usableVariables, usableCurves, usableFunctions, usableGroups, usable}
 use Rattle.bsmp.specs.Store.{Lent, held}
 use Rattle.bsmp.specs.declared.Variable.{Variable}
 use Rattle.bsmp.specs.declared.Curve.{Curve}
-use Rattle.bsmp.proofs.Store.{store-test, curve-bytes}
+use Rattle.bsmp.proofs.Bools.{not-so}
+use Rattle.bsmp.proofs.Store.{curve-bytes}
 use Rattle.records.specs.declared.Records.{Records}
 use Rattle.records.specs.declared.Groups.{Groups}
 use Rattle.records.specs.declared.Checked.{Checked}
@@ -19,7 +20,7 @@ use Rattle.records.specs.declared.Board.{Board}
 use Rattle.records.specs.Lending.{recordsOf, curvesOf, functionsOf, groupsOf, tableOf, lent}
 use Rattle.records.specs.Checks.{checkedOf, curveBytes, curvesCheckedOf, boardOf}
 use Rattle.records.proofs.Lending.{record-count, sizes-lent}
-use Rattle.records.proofs.Checks.{all-off}
+use Rattle.records.proofs.Sound.{Sound, usable-sound, sound-usable}
 
 -- an answer c that is x if b holds, and y if not; the field f tells which
 module _ {A : Type 0} (f : A → Bool) (x y : A) (yes : f x ≡ true) (no : f y ≡ false) where
@@ -64,7 +65,7 @@ module _ (t : Table) (x : Lent) (c : Board) (e : c ≡ boardOf t x) where
   unfolding boardOf
   board-writable h = ap (λ (a : Board). a .writable) (chosen (λ a. a .usable) _ _ refl refl (usable t (held (layout t) x)) c e h)
 
--- the six rules, in order
+-- what is lent is unusable where one of its parts is, and usable where all are
 module _ (r : Records) (cs fs vs bs : List ℕ) (g : Groups) where
   abbrev table : Table
   table = tableOf r cs fs
@@ -72,56 +73,57 @@ module _ (r : Records) (cs fs vs bs : List ℕ) (g : Groups) where
   abbrev lending : Lent
   lending = lent vs bs (groupsOf g)
 
-  refused : (k : ℕ) → getD (rules table (held (layout table) lending)) k true ≡ false → record { usable = false; writable = 0 } ≡ boardOf table lending
-  unfolding boardOf usable
-  refused k h = rw (all-off (rules table (held (layout table) lending)) k h)
+  abbrev Refused : Type 0
+  Refused = record { usable = false; writable = 0 } ≡ boardOf table lending
 
-  pub board-variables : (c : Checked) → c ≡ checkedOf (recordsOf r) → not (c .usable) ≡ true → record { usable = false; writable = 0 } ≡ boardOf table lending
-  board-variables c e h = refused 0 (sym (records-usable (recordsOf r) c e) ∙ not-true _ h)
+  refused : (Sound table lending → ⊥) → Refused
+  unfolding boardOf
+  refused n = rw (not-so (usable table (held (layout table) lending)) (λ u. n (usable-sound table lending u)))
 
-  pub board-values : (c : Checked) → c ≡ checkedOf (recordsOf r) → not (c .usable) ≡ false → (c .total ≡ length vs → ⊥) → record { usable = false; writable = 0 } ≡ boardOf table lending
-  board-values c e h n =
-      let o : c .total ≡ sum (sizesOf (recordsOf r)) = records-total (recordsOf r) c e (not-false _ h) in
-      refused 1 (store-test (sizesOf (recordsOf r)) vs ∙ ne-eqb _ _ (λ q. n (o ∙ sym q)))
+  unless : (b b′ : Bool) → b ≡ b′ → not b ≡ true → b′ ≡ true → ⊥
+  unless b b′ e h q = false≢true (sym (not-true b h) ∙ e ∙ q)
 
-  pub board-curves : (d : CurvesChecked) → d ≡ curvesCheckedOf (curvesOf cs) → not (d .usable) ≡ true → record { usable = false; writable = 0 } ≡ boardOf table lending
-  board-curves d e h = refused 2 (sym (curves-usable (curvesOf cs) d e) ∙ not-true _ h)
+  pub board-variables : (c : Checked) → c ≡ checkedOf (recordsOf r) → not (c .usable) ≡ true → Refused
+  board-variables c e h = refused (λ s. unless _ _ (records-usable (recordsOf r) c e) h (s .variables))
 
-  pub board-blocks : (d : CurvesChecked) → d ≡ curvesCheckedOf (curvesOf cs) → not (d .usable) ≡ false → (d .total ≡ length bs → ⊥) → record { usable = false; writable = 0 } ≡ boardOf table lending
-  board-blocks d e h n =
-      let o : d .total ≡ sum (blockSizes (curvesOf cs)) = curves-total (curvesOf cs) d e (not-false _ h) ∙ sym (curve-bytes (curvesOf cs)) in
-      refused 3 (store-test (blockSizes (curvesOf cs)) bs ∙ ne-eqb _ _ (λ q. n (o ∙ sym q)))
+  pub board-values : (c : Checked) → c ≡ checkedOf (recordsOf r) → not (c .usable) ≡ false → (c .total ≡ length vs → ⊥) → Refused
+  board-values c e h n = refused (λ s. n (records-total (recordsOf r) c e (not-false _ h) ∙ sym (s .values)))
 
-  pub board-functions : (b : Bool) → b ≡ usableFunctions (functionsOf fs) → not b ≡ true → record { usable = false; writable = 0 } ≡ boardOf table lending
-  board-functions b e h = refused 4 (sym e ∙ not-true b h)
+  pub board-curves : (d : CurvesChecked) → d ≡ curvesCheckedOf (curvesOf cs) → not (d .usable) ≡ true → Refused
+  board-curves d e h = refused (λ s. unless _ _ (curves-usable (curvesOf cs) d e) h (s .curves))
 
-  pub board-groups : (b : Bool) → b ≡ usableGroups (r .count) (groupsOf g) → not b ≡ true → record { usable = false; writable = 0 } ≡ boardOf table lending
-  board-groups b e h = refused 5 (rw (← record-count r, ← e) (not-true b h))
+  curve-total : (d : CurvesChecked) → d ≡ curvesCheckedOf (curvesOf cs) → not (d .usable) ≡ false → d .total ≡ sum (blockSizes (curvesOf cs))
+  curve-total d e h = curves-total (curvesOf cs) d e (not-false _ h) ∙ sym (curve-bytes (curvesOf cs))
+
+  pub board-blocks : (d : CurvesChecked) → d ≡ curvesCheckedOf (curvesOf cs) → not (d .usable) ≡ false → (d .total ≡ length bs → ⊥) → Refused
+  board-blocks d e h n = refused (λ s. n (curve-total d e h ∙ sym (s .blocks)))
+
+  pub board-functions : (b : Bool) → b ≡ usableFunctions (functionsOf fs) → not b ≡ true → Refused
+  board-functions b e h = refused (λ s. unless _ _ e h (s .functions))
+
+  -- the groups' check goes by the number of records
+  counted : (b : Bool) → b ≡ usableGroups (r .count) (groupsOf g) → b ≡ usableGroups (length (recordsOf r)) (groupsOf g)
+  counted b e = e ∙ ap (λ n. usableGroups n (groupsOf g)) (record-count r)
+
+  pub board-groups : (b : Bool) → b ≡ usableGroups (r .count) (groupsOf g) → not b ≡ true → Refused
+  board-groups b e h = refused (λ s. unless _ _ (counted b e) h (s .groups))
 
   pub board-yes : (c : Checked) (d : CurvesChecked) (a b : Bool) → c ≡ checkedOf (recordsOf r) → not (c .usable) ≡ false → c .total ≡ length vs
       → d ≡ curvesCheckedOf (curvesOf cs) → not (d .usable) ≡ false → d .total ≡ length bs
       → a ≡ usableFunctions (functionsOf fs) → not a ≡ false → b ≡ usableGroups (r .count) (groupsOf g) → not b ≡ false
       → record { usable = true; writable = c .writable } ≡ boardOf table lending
-  unfolding boardOf usable
+  unfolding boardOf
   board-yes c d a b ec hc vc ed hd vd ea ha eb hb =
       let u = not-false _ hc in
-      let w = not-false _ hd in
-      rw (
-        ← records-usable (recordsOf r) c ec,
-        u,
-        store-test (sizesOf (recordsOf r)) vs,
-        eq-eqb _ _ (sym vc ∙ records-total (recordsOf r) c ec u),
-        ← curves-usable (curvesOf cs) d ed,
-        w,
-        store-test (blockSizes (curvesOf cs)) bs,
-        eq-eqb _ _ (sym vd ∙ curves-total (curvesOf cs) d ed w ∙ sym (curve-bytes (curvesOf cs))),
-        ← ea,
-        not-false a ha,
-        ← record-count r,
-        ← eb,
-        not-false b hb,
-        records-writable (recordsOf r) c ec u,
-      )
+      let whole : Sound table lending = record {
+        variables = sym (records-usable (recordsOf r) c ec) ∙ u;
+        values = sym vc ∙ records-total (recordsOf r) c ec u;
+        curves = sym (curves-usable (curvesOf cs) d ed) ∙ not-false _ hd;
+        blocks = sym vd ∙ curve-total d ed hd;
+        functions = sym ea ∙ not-false a ha;
+        groups = sym (counted b eb) ∙ not-false b hb;
+      } in
+      rw (sound-usable table lending whole, records-writable (recordsOf r) c ec u)
 
 -- what messages look at, from the column of sizes and the marks that the check told
 pub layout-lent : (r : Records) (cs fs : List ℕ) (w : ℕ) → r .count ≤ length (r .sizes) → w ≡ writableOf (recordsOf r)
