@@ -1,5 +1,5 @@
 -- What `reads` says: the same on both boards, and exactly 01's three ways to read. Assumes nothing.
-use mathlib.Core.Path.{_≡_, refl, ap₂, _∙_}
+use mathlib.Core.Path.{_≡_, refl, sym, ap₂, _∙_}
 use mathlib.Core.Logic.{_↔_, _⊎_, inl, inr}
 use mathlib.Core.Bool.{Bool, true, false, cond, _&&_, _||_, false≢true}
 use mathlib.Core.List.{List, [], _∷_}
@@ -19,7 +19,7 @@ use Rattle.bsmp.specs.declared.Command.the-variants.{Version, ListVariab
 use Rattle.bsmp.specs.declared.Command.the-variants.{MaskVariable, MaskGroup, WriteRead, MakeGroup, RemoveGroups, ReadBlock, WriteBlock, RunFunction, Unknown}
 use Rattle.bsmp.specs.declared.Check.{Check}
 use Rattle.bsmp.specs.declared.Check.the-variants.{Pass, Fail}
-use Rattle.bsmp.proofs.Bools.{and-true}
+use Rattle.bsmp.proofs.Bools.{or-nothing, and-true}
 use Rattle.bsmp.proofs.Chain.{clear, first-clear}
 use Rattle.bsmp.proofs.Usable.{clear-usable, usable-clear}
 use Rattle.bsmp.proofs.Apart.{faults-alike, same-number}
@@ -47,10 +47,6 @@ pub record ReadsIt (t : Table) (a : Place) (v : VariableNumber) (busy room : ℕ
   pub accepted : judge (layout t) (s .groups) busy (message p) ≡ Pass
   pub way : Way (layout t) (s .groups) v (drop 3 (message p)) (commandOf (byteAt (message p) 0))
 
-or-last : (b : Bool) → (b || false) ≡ true → b ≡ true
-or-last true e = refl
-or-last false e = e
-
 same-one : (v i : VariableNumber) → v ≡ i → (isSame v i || false) ≡ true
 same-one v i e = rw (← e, eq-eqb (v .0) (v .0) refl)
 
@@ -63,13 +59,13 @@ module _ (l : Layout) (gs : List ℕ) (v : VariableNumber) (p : List ℕ) where
   tells-way ShowGroup h = absurd (false≢true h)
   tells-way ListCurves h = absurd (false≢true h)
   tells-way ListFunctions h = absurd (false≢true h)
-  tells-way ReadVariable h = inl (refl, same-number _ v (or-last _ h))
+  tells-way ReadVariable h = inl (refl, same-number _ v (sym (or-nothing _) ∙ h))
   tells-way ReadGroup h = inr (inl (refl, h))
   tells-way WriteVariable h = absurd (false≢true h)
   tells-way WriteGroup h = absurd (false≢true h)
   tells-way MaskVariable h = absurd (false≢true h)
   tells-way MaskGroup h = absurd (false≢true h)
-  tells-way WriteRead h = inr (inr (refl, same-number _ v (or-last _ h)))
+  tells-way WriteRead h = inr (inr (refl, same-number _ v (sym (or-nothing _) ∙ h)))
   tells-way MakeGroup h = absurd (false≢true h)
   tells-way RemoveGroups h = absurd (false≢true h)
   tells-way ReadBlock h = absurd (false≢true h)

@@ -158,9 +158,12 @@ pub record Line : Type 0 where
   pub change : Change
   pub answer : Answer
 
--- all its tests: "bits .. stop writes only", and E7 comes last
+-- all its tests: E8 and then E7 come last
+abbrev pub lastTests : (busy full : Bool) → List (Test WireError)
+lastTests busy full = isBusy busy ∷ isFull full ∷ []
+
 abbrev pub testsOf : Line → (busy : ℕ) → List (Test WireError)
-testsOf n busy = n .tests ++ isBusy (some (marked busy) (n .touches)) ∷ isFull (n .full) ∷ []
+testsOf n busy = n .tests ++ lastTests (some (marked busy) (n .touches)) (n .full)
 
 abbrev pub done : Answer
 done = say 0xE0 []

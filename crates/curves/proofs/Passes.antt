@@ -6,7 +6,7 @@ use Prim.Native.Nat.{ℕ, _-_, _≤_}
 use native.Mathlib.Omega.{arith}
 use lib.ListN.{length}
 use borrow.Author.Tests.{ltb-true, ltb-false, eqb-true, not-false}
-use Rattle.bsmp.specs.Message.{line}
+use Rattle.bsmp.specs.Message.{line, testsOf}
 use Rattle.bsmp.specs.declared.Curve.{Curve}
 use Rattle.bsmp.specs.declared.Function.{Function}
 use Rattle.bsmp.specs.declared.Command.{Command}
@@ -19,8 +19,8 @@ use Rattle.curves.specs.Fits.{namedCurve, BlockRead, BlockFits}
 
 module _ (ns : List ℕ) (w : ℕ) (cs : List Curve) (fs : List Function) (gs p : List ℕ) where
   -- test j of the command passed
-  passed-at : (k : Command) (h : Passed (layoutOf ns w cs fs) gs p k) (j : ℕ) → broken-at (line (layoutOf ns w cs fs) gs p k .tests (h .marks)) j ≡ false
-  passed-at k h j = clear-at (line (layoutOf ns w cs fs) gs p k .tests (h .marks)) (passed-clear (layoutOf ns w cs fs) gs p k h) j
+  passed-at : (k : Command) (h : Passed (layoutOf ns w cs fs) gs p k) (j : ℕ) → broken-at (testsOf (line (layoutOf ns w cs fs) gs p k) (h .marks)) j ≡ false
+  passed-at k h j = clear-at (testsOf (line (layoutOf ns w cs fs) gs p k) (h .marks)) (passed-clear (layoutOf ns w cs fs) gs p k h) j
 
   pub read-fits : Passed (layoutOf ns w cs fs) gs p ReadBlock → BlockRead cs p
   unfolding line

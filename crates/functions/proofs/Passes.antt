@@ -6,7 +6,7 @@ use Prim.Native.Nat.{ℕ, _+_, _<_}
 use lib.ListN.{length}
 use borrow.Author.Tests.{ltb-true, ltb-false, eqb-true, not-false}
 use Rattle.bsmp.specs.Board.{functionOf}
-use Rattle.bsmp.specs.Message.{functionAt, line}
+use Rattle.bsmp.specs.Message.{functionAt, line, testsOf}
 use Rattle.bsmp.specs.declared.Curve.{Curve}
 use Rattle.bsmp.specs.declared.Function.{Function}
 use Rattle.bsmp.specs.declared.Command.the-variants.{RunFunction}
@@ -15,8 +15,8 @@ use Rattle.parts.specs.Parts.{layoutOf, functionsOnly, Passed}
 use Rattle.parts.proofs.Passed.{passed-clear}
 
 module _ (ns : List ℕ) (w : ℕ) (cs : List Curve) (fs : List Function) (gs p : List ℕ) (h : Passed (layoutOf ns w cs fs) gs p RunFunction) where
-  passed-at : (j : ℕ) → broken-at (line (layoutOf ns w cs fs) gs p RunFunction .tests (h .marks)) j ≡ false
-  passed-at j = clear-at (line (layoutOf ns w cs fs) gs p RunFunction .tests (h .marks)) (passed-clear (layoutOf ns w cs fs) gs p RunFunction h) j
+  passed-at : (j : ℕ) → broken-at (testsOf (line (layoutOf ns w cs fs) gs p RunFunction) (h .marks)) j ≡ false
+  passed-at j = clear-at (testsOf (line (layoutOf ns w cs fs) gs p RunFunction) (h .marks)) (passed-clear (layoutOf ns w cs fs) gs p RunFunction h) j
 
   -- each by itself, and all
   pub run-some : 0 < length p

@@ -8,7 +8,7 @@ use lib.Dec.{eqb, leb, ltb}
 use lib.ListN.{length}
 use borrow.Author.Tests.{ltb-true, ltb-false, leb-true, le-ltb, le-leb, eq-eqb, ne-eqb, not-true, not-false}
 use Rattle.bsmp.specs.Base.{every, some}
-use Rattle.bsmp.specs.Board.{marked, members, groupBytes, groupHas, writableGroup, groupCount}
+use Rattle.bsmp.specs.Board.{marked, members, groupBytes, writableGroup, groupCount}
 use Rattle.bsmp.specs.Message.{groupAt, noGroup, listed}
 use Rattle.bsmp.specs.declared.GroupNumber.{GroupNumber}
 use Rattle.bsmp.proofs.Bools.{bool-eq}
@@ -56,8 +56,7 @@ module _ (ns : List ℕ) (w : ℕ) (gs : List ℕ) (g : GroupNumber) (set : ℕ)
     marks-are : membersBelow marks 64 ≡ members (variablesOnly ns w) gs g
     marks-are = ap (λ (m : ℕ). membersBelow m 64) d ∙ group-marks (variablesOnly ns w) gs g ns w set refl refl few q
 
-    pub busy-told : (busy : ℕ) (r b : Bool) → r ≡ some (marked busy) (membersBelow marks 64) → r ≡ b → groupHas busy (variablesOnly ns w) gs g ≡ b
-    unfolding groupHas
+    pub busy-told : (busy : ℕ) (r b : Bool) → r ≡ some (marked busy) (membersBelow marks 64) → r ≡ b → some (marked busy) (members (variablesOnly ns w) gs g) ≡ b
     busy-told busy r b h t = rw (← marks-are) (sym h ∙ t)
 
     module _ (x : GroupNumber) (e : x ≡ g) (r : Bool)

@@ -2,4 +2,3 @@ pub mod Known
 pub mod Ascend
 pub mod Listing
 pub mod Pass
-pub mod Whole

@@ -7,7 +7,7 @@ use native.Mathlib.Omega.{arith}
 use lib.ListN.{length}
 use borrow.Author.Tests.{ltb-true, ltb-false, leb-false, eqb-true, not-false}
 use Rattle.bsmp.specs.Board.{Layout, variable, members, groupBytes, setOf}
-use Rattle.bsmp.specs.Message.{line, writesGroup, size≠, size<, noGroup, groupAt}
+use Rattle.bsmp.specs.Message.{line, testsOf, writesGroup, size≠, size<, noGroup, groupAt}
 use Rattle.bsmp.specs.declared.Curve.{Curve}
 use Rattle.bsmp.specs.declared.Function.{Function}
 use Rattle.bsmp.specs.declared.Command.{Command}
@@ -20,8 +20,8 @@ use Rattle.sets.proofs.Ids.{known-below, below-more, set-told}
 use Rattle.groups.specs.Promises.{GroupKnown, GroupFits}
 
 -- test n of the command is not broken
-passes : (l : Layout) (gs p : List ℕ) (k : Command) (h : Passed l gs p k) (n : ℕ) → broken-at (line l gs p k .tests (h .marks)) n ≡ false
-passes l gs p k h n = clear-at (line l gs p k .tests (h .marks)) (passed-clear l gs p k h) n
+passes : (l : Layout) (gs p : List ℕ) (k : Command) (h : Passed l gs p k) (n : ℕ) → broken-at (testsOf (line l gs p k) (h .marks)) n ≡ false
+passes l gs p k h n = clear-at (testsOf (line l gs p k) (h .marks)) (passed-clear l gs p k h) n
 
 known : (gs p : List ℕ) → size≠ p 1 ≡ false → noGroup gs (groupAt p 0) ≡ false → GroupKnown gs p
 known gs p a b =
@@ -67,7 +67,7 @@ module _ (ns : List ℕ) (w : ℕ) (cs : List Curve) (fs : List Function) (gs p 
 
   pub make-room : Passes MakeGroup → length gs < 5
   unfolding line
-  make-room h = leb-false _ _ (passes _ gs p MakeGroup h 3)
+  make-room h = leb-false _ _ (passes _ gs p MakeGroup h 4)
 
   -- so `sets::set_of` may be asked for the new group's set, and answers it
   pub make-below : Passes MakeGroup → length ns ≤ 64 → Below 64 p

@@ -5,12 +5,13 @@ use bsmp::GroupNumber;
 use bsmp::Operation;
 use bsmp::WireError;
 ghost use mathlib.Core.Path.{_≡_};
-ghost use mathlib.Core.List.{[], _∷_, map};
+ghost use mathlib.Core.Bool.{false};
+ghost use mathlib.Core.List.{[], _∷_, _++_, map};
 ghost use Prim.Native.Nat.{_+_, _≤_, _<_};
 ghost use lib.ListN.{length, drop};
-ghost use Rattle.bsmp.specs.Base.{cut, first};
-ghost use Rattle.bsmp.specs.Board.{sizeOf, members, writableGroup, groupCount};
-ghost use Rattle.bsmp.specs.Message.{badFront, missing, size≠, groupAt, noGroup, listed, groupList, writesGroup, busyGroup, check, edited, told};
+ghost use Rattle.bsmp.specs.Base.{some, cut, first};
+ghost use Rattle.bsmp.specs.Board.{sizeOf, marked, members, writableGroup, groupCount};
+ghost use Rattle.bsmp.specs.Message.{badFront, missing, size≠, groupAt, noGroup, listed, groupList, writesGroup, groupMembers, lastTests, check, edited, told};
 ghost use Rattle.bsmp.specs.declared.Check.the-variants.{Pass, Fail};
 ghost use Rattle.bsmp.specs.declared.Command.the-variants.{ShowGroup, ReadGroup, WriteGroup, MaskGroup, MakeGroup};
 ghost use Rattle.parts.specs.Parts.{variablesOnly, Answered};
@@ -59,8 +60,9 @@ fn writes(
 ) -> Check
     requires { ⌜ (length (now sizes) ≤ 64) × (front ≤ 2) ⌝ }
     requires { ⌜ GroupKnown (now groups) (now payload) ⌝ }
-    ensures { λ r. ⌜ r ≡ first (writesGroup (variablesOnly (now (sizes .entry)) writable) (now (groups .entry)) (now (payload .entry)) front
-        (busyGroup (variablesOnly (now (sizes .entry)) writable) (now (groups .entry)) (now (payload .entry)) busy)) Fail Pass ⌝ }
+    ensures { λ r. ⌜ (let l = variablesOnly (now (sizes .entry)) writable in
+        let members = groupMembers l (now (groups .entry)) (now (payload .entry)) in
+        r ≡ first (writesGroup l (now (groups .entry)) (now (payload .entry)) front ++ lastTests (some (marked busy) members) false) Fail Pass) ⌝ }
 {
     let set = named_set(writable, groups, payload);
     if payload.len() != front + sets::set_bytes(sizes, set) {

@@ -4,7 +4,7 @@ use mathlib.Core.List.{List}
 use Prim.Native.Nat.{ℕ}
 use native.Mathlib.Omega.{arith}
 use Rattle.bsmp.specs.Board.{Layout}
-use Rattle.bsmp.specs.Message.{line, check}
+use Rattle.bsmp.specs.Message.{line, testsOf, check}
 use Rattle.bsmp.specs.declared.WireError.{WireError}
 use Rattle.bsmp.specs.declared.Command.{Command}
 use Rattle.bsmp.specs.declared.Check.the-variants.{Pass, Fail}
@@ -14,10 +14,10 @@ use Rattle.parts.specs.Parts.{Passed}
 pub fail-no : (e : WireError) → Fail e ≡ Pass → ⊥
 fail-no e h = let z : _≡_ {A = ℕ} 0 1 = cc in omega arith
 
-pub check-clear : (l : Layout) (gs : List ℕ) (busy : ℕ) (p : List ℕ) (k : Command) → check l gs busy p k ≡ Pass → clear (line l gs p k .tests busy)
+pub check-clear : (l : Layout) (gs : List ℕ) (busy : ℕ) (p : List ℕ) (k : Command) → check l gs busy p k ≡ Pass → clear (testsOf (line l gs p k) busy)
 unfolding check
 check-clear l gs busy p k =
-    first-case (λ v. v ≡ Pass → clear (line l gs p k .tests busy)) (line l gs p k .tests busy) Fail Pass (λ e h. absurd (fail-no e h)) (λ c h. c)
+    first-case (λ v. v ≡ Pass → clear (testsOf (line l gs p k) busy)) (testsOf (line l gs p k) busy) Fail Pass (λ e h. absurd (fail-no e h)) (λ c h. c)
 
-pub passed-clear : (l : Layout) (gs p : List ℕ) (k : Command) (h : Passed l gs p k) → clear (line l gs p k .tests (h .marks))
+pub passed-clear : (l : Layout) (gs p : List ℕ) (k : Command) (h : Passed l gs p k) → clear (testsOf (line l gs p k) (h .marks))
 passed-clear l gs p k h = check-clear l gs (h .marks) p k (h .passes)

@@ -2,4 +2,3 @@ pub mod Named
 pub mod One
 pub mod Listing
 pub mod Passes
-pub mod Whole

@@ -1,19 +1,20 @@
 -- The tests of the variable that a payload's byte names, as code has them at a return. Assumes nothing.
 use mathlib.Core.Path.{_≡_, sym, ap, _∙_}
 use mathlib.Core.Bool.{Bool, true, false, not}
-use mathlib.Core.List.{List, [], _∷_}
+use mathlib.Core.List.{List, [], _∷_, _++_}
 use Prim.Native.Nat.{ℕ, _+_, _≤_, _<_}
 use native.Mathlib.Omega.{arith}
 use lib.Dec.{eqb, ltb}
 use lib.ListN.{length, drop, getD}
 use borrow.Author.Tests.{lt-ltb, le-ltb}
-use Rattle.bsmp.specs.Base.{cut, byteAt, first}
+use Rattle.bsmp.specs.Base.{some, cut, byteAt, first}
 use Rattle.bsmp.specs.Board.{Layout, marked}
-use Rattle.bsmp.specs.Message.{variableAt, writesVariable, edited}
+use Rattle.bsmp.specs.Message.{variableAt, writesVariable, lastTests, edited}
 use Rattle.bsmp.specs.declared.Operation.{Operation}
 use Rattle.bsmp.specs.declared.VariableNumber.{VariableNumber}
 use Rattle.bsmp.specs.declared.Check.{Check}
 use Rattle.bsmp.specs.declared.Check.the-variants.{Pass, Fail}
+use Rattle.bsmp.proofs.Bools.{or-nothing}
 use Rattle.sets.specs.Members.{sizeAt}
 use Rattle.variables.specs.Fits.{OneFits}
 
@@ -50,5 +51,5 @@ module _ (ns p : List ℕ) (f : ℕ) (i : VariableNumber) (h : i ≡ variableAt 
 
 -- the tests of a write, told whether the variable is busy
 pub named-writes : (p : List ℕ) (i : VariableNumber) (m : ℕ) (b : Bool) (l : Layout) (n : ℕ) (x : Check) → i ≡ variableAt p 0 → b ≡ marked m i
-    → x ≡ first (writesVariable l p n b) Fail Pass → x ≡ first (writesVariable l p n (marked m (variableAt p 0))) Fail Pass
-named-writes p i m b l n x h e q = q ∙ ap (λ (y : Bool). first (writesVariable l p n y) Fail Pass) (e ∙ ap (marked m) h)
+    → x ≡ first (writesVariable l p n ++ lastTests b false) Fail Pass → x ≡ first (writesVariable l p n ++ lastTests (some (marked m) (variableAt p 0 ∷ [])) false) Fail Pass
+named-writes p i m b l n x h e q = q ∙ ap (λ (y : Bool). first (writesVariable l p n ++ lastTests y false) Fail Pass) (e ∙ ap (marked m) h ∙ sym (or-nothing (marked m (variableAt p 0))))

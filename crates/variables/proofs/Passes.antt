@@ -7,7 +7,7 @@ use native.Mathlib.Omega.{arith}
 use lib.ListN.{length}
 use borrow.Author.Tests.{ltb-true, ltb-false, eqb-true, not-false}
 use Rattle.bsmp.specs.Base.{byteAt}
-use Rattle.bsmp.specs.Message.{line, writesVariable, variableAt, noVariable}
+use Rattle.bsmp.specs.Message.{line, testsOf, writesVariable, variableAt, noVariable}
 use Rattle.bsmp.specs.declared.Curve.{Curve}
 use Rattle.bsmp.specs.declared.Function.{Function}
 use Rattle.bsmp.specs.declared.Command.{Command}
@@ -20,8 +20,8 @@ use Rattle.variables.specs.Fits.{OneFits}
 
 module _ (ns : List ℕ) (w : ℕ) (cs : List Curve) (fs : List Function) (gs p : List ℕ) where
   -- test j of the command passed
-  passed-at : (k : Command) (h : Passed (layoutOf ns w cs fs) gs p k) (j : ℕ) → broken-at (line (layoutOf ns w cs fs) gs p k .tests (h .marks)) j ≡ false
-  passed-at k h j = clear-at (line (layoutOf ns w cs fs) gs p k .tests (h .marks)) (passed-clear (layoutOf ns w cs fs) gs p k h) j
+  passed-at : (k : Command) (h : Passed (layoutOf ns w cs fs) gs p k) (j : ℕ) → broken-at (testsOf (line (layoutOf ns w cs fs) gs p k) (h .marks)) j ≡ false
+  passed-at k h j = clear-at (testsOf (line (layoutOf ns w cs fs) gs p k) (h .marks)) (passed-clear (layoutOf ns w cs fs) gs p k h) j
 
   pub read-some : Passed (layoutOf ns w cs fs) gs p ReadVariable → 0 < length p
   unfolding line

@@ -4,13 +4,13 @@ use bsmp::Operation;
 use bsmp::VariableNumber;
 use bsmp::WireError;
 ghost use mathlib.Core.Path.{_≡_};
-ghost use mathlib.Core.Bool.{true};
-ghost use mathlib.Core.List.{[], _∷_};
+ghost use mathlib.Core.Bool.{true, false};
+ghost use mathlib.Core.List.{[], _∷_, _++_};
 ghost use Prim.Native.Nat.{_+_, _≤_, _<_};
 ghost use lib.ListN.{length, drop};
 ghost use Rattle.bsmp.specs.Base.{first, every, cut, byteAt};
 ghost use Rattle.bsmp.specs.Board.{usableSize};
-ghost use Rattle.bsmp.specs.Message.{variableAt, writesVariable, listed, variableList, check, edited, told};
+ghost use Rattle.bsmp.specs.Message.{variableAt, writesVariable, lastTests, listed, variableList, check, edited, told};
 ghost use Rattle.bsmp.specs.declared.Check.the-variants.{Pass, Fail};
 ghost use Rattle.bsmp.specs.declared.Command.the-variants.{ReadVariable, WriteVariable, MaskVariable, WriteRead};
 ghost use Rattle.bsmp.specs.declared.Operation.the-variants.{Replace};
@@ -37,7 +37,8 @@ fn writes(
     busy: bool,
 ) -> Check
     requires { ⌜ (length (now sizes) ≤ 64) × (i ≡ variableAt (now payload) 0) × (i .0 < length (now sizes)) × (front ≤ 2) ⌝ }
-    ensures { λ r. ⌜ r ≡ first (writesVariable (variablesOnly (now (sizes .entry)) writable) (now (payload .entry)) front busy) Fail Pass ⌝ }
+    ensures { λ r. ⌜ (let l = variablesOnly (now (sizes .entry)) writable in
+        r ≡ first (writesVariable l (now (payload .entry)) front ++ lastTests busy false) Fail Pass) ⌝ }
 {
     let is_whole = payload.len() == front + size_of(sizes, i);
     let is_writable = sets::is_marked(writable, i);

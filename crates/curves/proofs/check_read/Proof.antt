@@ -2,8 +2,8 @@
 use borrow.Author.Needs.{needs}
 use borrow.Author.Tests.{eq-eqb, ne-eqb}
 use Rattle.bsmp.specs.Message.{line, check}
-use Rattle.bsmp.proofs.Chain.{first-next, first-stop, first-end}
-use Rattle.parts.proofs.Told.{not-on, not-off}
+use Rattle.bsmp.proofs.Chain.{first-next, first-stop}
+use Rattle.parts.proofs.Told.{idle-end, not-on, not-off}
 use Rattle.curves.proofs.Named.{curve-missing, curve-known, block-told}
 use Rattle.curves.proofs.check_read.Statement.{statement}
 use Rattle.curves.proofs.check_read.Tie as tie
@@ -20,4 +20,4 @@ check-read-spec =
     (λ c κs. search needs)
     (λ c κs. search needs)
     (λ c. search (first-next, first-stop, not-off, eq-eqb, curve-known, block-told, needs) depth 7)
-    (λ c. search (first-next, first-end, not-off, eq-eqb, curve-known, block-told, needs) depth 7))
+    (λ c. search (first-next, idle-end, not-off, eq-eqb, curve-known, block-told, needs) depth 7))

@@ -1,9 +1,10 @@
 -- `check_read` meets its contract. Assumes nothing.
 use borrow.Author.Needs.{needs}
+use Rattle.bsmp.specs.Base.{first}
 use Rattle.bsmp.specs.Message.{line, check}
 use Rattle.groups.proofs.check_read.Statement.{statement}
 use Rattle.groups.proofs.check_read.Tie as tie
 
 pub check-read-spec : {M : Type 1} → statement M
-unfolding check line
+unfolding first check line
 check-read-spec = tie.close (tie.spec (λ c κs. search needs) (λ c. search needs))

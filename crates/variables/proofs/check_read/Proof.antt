@@ -1,8 +1,8 @@
 -- `check_read` meets its contract. Assumes nothing.
 use borrow.Author.Tests.{eq-eqb, ne-eqb}
 use Rattle.bsmp.specs.Message.{line, check}
-use Rattle.bsmp.proofs.Chain.{first-next, first-stop, first-end}
-use Rattle.parts.proofs.Told.{not-on, not-off}
+use Rattle.bsmp.proofs.Chain.{first-next, first-stop}
+use Rattle.parts.proofs.Told.{idle-end, not-on, not-off}
 use Rattle.variables.proofs.Named.{named-known, named-missing}
 use borrow.Author.Needs.{needs}
 use Rattle.variables.proofs.check_read.Statement.{statement}
@@ -14,4 +14,4 @@ check-read-spec =
     tie.close
     (tie.spec (λ c. search (first-stop, not-on, ne-eqb, needs) depth 5) (λ c κs. search needs)
     (λ c. search (first-next, first-stop, not-off, eq-eqb, named-missing, needs) depth 5)
-    (λ c. search (first-next, first-end, not-off, eq-eqb, named-known, needs) depth 6))
+    (λ c. search (first-next, idle-end, not-off, eq-eqb, named-known, needs) depth 6))
