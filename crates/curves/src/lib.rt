@@ -102,29 +102,30 @@ impl Block {
 }
 
 // 41: the first bytes of the block named, as many as the payload carries, replaced.
-pub fn change(curves: &[u32], store: &mut [u8], payload: &[u8])
-    requires { ⌜ SoundCurves (curvesOf (now curves)) (now store) ⌝ }
+pub fn change(curves: &[u32], blocks: &mut [u8], payload: &[u8])
+    requires { ⌜ SoundCurves (curvesOf (now curves)) (now blocks) ⌝ }
     requires { ⌜ BlockFits (curvesOf (now curves)) (now payload) ⌝ }
-    ensures { λ _. ⌜ blocksIn (curvesOf (now (curves .entry))) (now (store .exit))
-        ≡ set (blocksIn (curvesOf (now (curves .entry))) (now (store .entry))) (placeOf (curvesOf (now (curves .entry))) (now (payload .entry)))
-        (filled (drop 3 (now (payload .entry))) (namedBlock (curvesOf (now (curves .entry))) (now (store .entry)) (now (payload .entry)))) ⌝ }
+    ensures { λ _. ⌜ (let curves = curvesOf (now (curves .entry)) in
+        let payload = now (payload .entry) in
+        let block = namedBlock curves (now (blocks .entry)) payload in
+        blocksIn curves (now (blocks .exit)) ≡ set (blocksIn curves (now (blocks .entry))) (placeOf curves payload) (filled (drop 3 payload) block)) ⌝ }
 {
     let at = Block::of(curves, payload).at;
-    lists::copy_into(&mut store[at..], &payload[3..]);
+    lists::copy_into(&mut blocks[at..], &payload[3..]);
 }
 
 // 41 as an answer: curve and block number as they came, and the block's bytes.
-pub fn tell(curves: &[u32], store: &[u8], payload: &[u8], reply: &mut [u8], at: usize) -> usize
-    requires { ⌜ SoundCurves (curvesOf (now curves)) (now store) ⌝ }
+pub fn tell(curves: &[u32], blocks: &[u8], payload: &[u8], reply: &mut [u8], at: usize) -> usize
+    requires { ⌜ SoundCurves (curvesOf (now curves)) (now blocks) ⌝ }
     requires { ⌜ BlockRead (curvesOf (now curves)) (now payload) ⌝ }
     requires { ⌜ at + 4099 ≤ length (now reply) ⌝ }
-    ensures { λ r. ⌜ Answered (now (reply .entry)) at
-        (now (payload .entry) ++ namedBlock (curvesOf (now (curves .entry))) (now (store .entry)) (now (payload .entry)))
-        r (now (reply .exit)) ⌝ }
+    ensures { λ r. ⌜ (let payload = now (payload .entry) in
+        let block = namedBlock (curvesOf (now (curves .entry))) (now (blocks .entry)) payload in
+        Answered (now (reply .entry)) at (payload ++ block) r (now (reply .exit))) ⌝ }
 {
     let block = Block::of(curves, payload);
     lists::read_value(payload, 0, 3, reply, at);
-    lists::read_value(store, block.at, block.size, reply, at + 3);
+    lists::read_value(blocks, block.at, block.size, reply, at + 3);
     3 + block.size
 }
 
@@ -163,7 +164,8 @@ fn list_record(curve: Curve, reply: &mut [u8], at: usize)
 pub fn list(curves: &[u32], reply: &mut [u8], at: usize) -> usize
     requires { ⌜ usableCurves (curvesOf (now curves)) ≡ true ⌝ }
     requires { ⌜ at + 4099 ≤ length (now reply) ⌝ }
-    ensures { λ r. ⌜ Answered (now (reply .entry)) at (curveList (curvesOnly (curvesOf (now (curves .entry))))) r (now (reply .exit)) ⌝ }
+    ensures { λ r. ⌜ (let l = curvesOnly (curvesOf (now (curves .entry))) in
+        Answered (now (reply .entry)) at (curveList l) r (now (reply .exit))) ⌝ }
 {
     let n = records::curve_count(curves);
     let mut i = 0;

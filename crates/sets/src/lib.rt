@@ -121,33 +121,33 @@ pub fn set_bytes(sizes: &[u8], set: u64) -> usize
 fn read_turn(
     set: u64,
     i: VariableNumber,
-    store: &[u8],
+    values: &[u8],
     from: usize,
     n: usize,
     reply: &mut [u8],
     to: usize,
 ) -> usize
-    requires { ⌜ (i .0 < 64) × (from + n ≤ length (now store)) × (to + n ≤ length (now reply)) ⌝ }
-    ensures { λ r. ⌜ Turned (marked set i) n (part (now (store .entry)) from n) (now (reply .entry)) to to r (now (reply .exit)) ⌝ }
+    requires { ⌜ (i .0 < 64) × (from + n ≤ length (now values)) × (to + n ≤ length (now reply)) ⌝ }
+    ensures { λ r. ⌜ Turned (marked set i) n (part (now (values .entry)) from n) (now (reply .entry)) to to r (now (reply .exit)) ⌝ }
 {
     if is_marked(set, i) {
-        lists::read_value(store, from, n, reply, to);
+        lists::read_value(values, from, n, reply, to);
         return to + n;
     }
     to
 }
 
 // The members' values, ascending, into the reply from `at` on; answers how many bytes they are.
-pub fn read_members(sizes: &[u8], set: u64, store: &[u8], reply: &mut [u8], at: usize) -> usize
-    requires { ⌜ Sound (now sizes) (now store) ⌝ }
+pub fn read_members(sizes: &[u8], set: u64, values: &[u8], reply: &mut [u8], at: usize) -> usize
+    requires { ⌜ Sound (now sizes) (now values) ⌝ }
     requires { ⌜ at + 4096 ≤ length (now reply) ⌝ }
-    ensures { λ r. ⌜ Placed (told (cut (now (sizes .entry)) (now (store .entry))) (membersOf set (now (sizes .entry)))) 4096
-        (now (reply .entry)) at r (now (reply .exit)) ⌝ }
+    ensures { λ r. ⌜ (let sizes = now (sizes .entry) in
+        Placed (told (cut sizes (now (values .entry))) (membersOf set sizes)) 4096 (now (reply .entry)) at r (now (reply .exit))) ⌝ }
 {
     // all variables, as of group 0: their values are the store as it stands
     if set == !0 {
-        let all = store.len();
-        lists::read_value(store, 0, all, reply, at);
+        let all = values.len();
+        lists::read_value(values, 0, all, reply, at);
         return all;
     }
     let mut off: usize = 0;
@@ -155,7 +155,7 @@ pub fn read_members(sizes: &[u8], set: u64, store: &[u8], reply: &mut [u8], at: 
     let mut i = 0;
     while i < sizes.len() {
         let n = sizes[i] as usize;
-        to = read_turn(set, VariableNumber(i), store, off, n, reply, to);
+        to = read_turn(set, VariableNumber(i), values, off, n, reply, to);
         off += n;
         i += 1;
     }
@@ -166,19 +166,19 @@ pub fn read_members(sizes: &[u8], set: u64, store: &[u8], reply: &mut [u8], at: 
 fn change_turn(
     set: u64,
     i: VariableNumber,
-    store: &mut [u8],
+    values: &mut [u8],
     at: usize,
     n: usize,
     op: Operation,
     payload: &[u8],
     from: usize,
 ) -> usize
-    requires { ⌜ (i .0 < 64) × (at + n ≤ length (now store)) × (from + cond (marked set i) n 0 ≤ length (now payload)) ⌝ }
-    ensures { λ r. ⌜ Turned (marked set i) n (changed op (part (now (store .entry)) at n) (part (now (payload .entry)) from n))
-        (now (store .entry)) at from r (now (store .exit)) ⌝ }
+    requires { ⌜ (i .0 < 64) × (at + n ≤ length (now values)) × (from + cond (marked set i) n 0 ≤ length (now payload)) ⌝ }
+    ensures { λ r. ⌜ (let value = changed op (part (now (values .entry)) at n) (part (now (payload .entry)) from n) in
+        Turned (marked set i) n value (now (values .entry)) at from r (now (values .exit))) ⌝ }
 {
     if is_marked(set, i) {
-        lists::change_value(store, at, n, op, payload, from);
+        lists::change_value(values, at, n, op, payload, from);
         return from + n;
     }
     from
@@ -188,21 +188,20 @@ fn change_turn(
 pub fn change_members(
     sizes: &[u8],
     set: u64,
-    store: &mut [u8],
+    values: &mut [u8],
     op: Operation,
     payload: &[u8],
     front: usize,
 )
-    requires { ⌜ Sound (now sizes) (now store) ⌝ }
+    requires { ⌜ Sound (now sizes) (now values) ⌝ }
     requires { ⌜ front + setBytes set (now sizes) ≤ length (now payload) ⌝ }
-    ensures { λ _. ⌜ cut (now (sizes .entry)) (now (store .exit))
-        ≡ edited op (membersOf set (now (sizes .entry)))
-        (cut (map (sizeAt (now (sizes .entry))) (membersOf set (now (sizes .entry)))) (drop front (now (payload .entry))))
-        (cut (now (sizes .entry)) (now (store .entry))) ⌝ }
+    ensures { λ _. ⌜ (let sizes = now (sizes .entry) in
+        let parts = cut (map (sizeAt sizes) (membersOf set sizes)) (drop front (now (payload .entry))) in
+        cut sizes (now (values .exit)) ≡ edited op (membersOf set sizes) parts (cut sizes (now (values .entry)))) ⌝ }
 {
     if set == !0 {
-        let all = store.len();
-        lists::change_value(store, 0, all, op, payload, front);
+        let all = values.len();
+        lists::change_value(values, 0, all, op, payload, front);
         return;
     }
     let mut off: usize = 0;
@@ -210,7 +209,7 @@ pub fn change_members(
     let mut i = 0;
     while i < sizes.len() {
         let n = sizes[i] as usize;
-        from = change_turn(set, VariableNumber(i), store, off, n, op, payload, from);
+        from = change_turn(set, VariableNumber(i), values, off, n, op, payload, from);
         off += n;
         i += 1;
     }
