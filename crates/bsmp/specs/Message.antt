@@ -149,49 +149,46 @@ unfoldable pub functionList : Layout → List ℕ
 functionList l = map (λ f. f .input * 16 + f .output) (l .functions)
 
 -- 01's table of commands --------------------------------------------------------------------------------------------------
--- a command: what it must pass first, in 01's order; the variables that must not be busy, which are those that it writes;
--- whether it finds no place left for a new group; what it changes; what it answers
+-- a command: what it must pass first, in 01's order; whether it finds no place for a new group; what it changes; what it answers
 pub record Line : Type 0 where
   pub tests : List (Test WireError)
-  pub touches : List VariableNumber
   pub full : Bool
   pub change : Change
   pub answer : Answer
 
--- all its tests: E8 and then E7 come last
+-- "the thing to be written is busy" comes after those tests, for every command alike, and a full table of groups last
+abbrev pub written : Change → List VariableNumber
+written nothing = []
+written (edit op is ps) = is
+written (fill k d) = []
+written (regroup gs) = []
+
 abbrev pub lastTests : (busy full : Bool) → List (Test WireError)
 lastTests busy full = isBusy busy ∷ isFull full ∷ []
 
 abbrev pub testsOf : Line → (busy : ℕ) → List (Test WireError)
-testsOf n busy = n .tests ++ lastTests (some (marked busy) (n .touches)) (n .full)
+testsOf n busy = n .tests ++ lastTests (some (marked busy) (written (n .change))) (n .full)
 
 abbrev pub done : Answer
 done = say 0xE0 []
 
--- a command that changes nothing; one without payload too; one that changes these variables; one that changes no variable
+-- a command that changes nothing; one without payload too; one that answers E0
 abbrev pub looks : List (Test WireError) → Answer → Line
-looks ts a = record { tests = ts; touches = []; full = false; change = nothing; answer = a }
+looks ts a = record { tests = ts; full = false; change = nothing; answer = a }
 
 abbrev pub asks : List ℕ → Answer → Line
 asks p a = looks (noPayload p) a
 
-abbrev pub writes : List (Test WireError) → List VariableNumber → Change → Answer → Line
-writes ts is c a = record { tests = ts; touches = is; full = false; change = c; answer = a }
-
-abbrev pub does : List (Test WireError) → (full : Bool) → Change → Line
-does ts full c = record { tests = ts; touches = []; full = full; change = c; answer = done }
+abbrev pub does : List (Test WireError) → Change → Line
+does ts c = record { tests = ts; full = false; change = c; answer = done }
 
 module _ (l : Layout) (gs : List ℕ) (p : List ℕ) where
-  -- the variable named first, and the members of the group named first
-  abbrev pub named : List VariableNumber
-  named = variableAt p 0 ∷ []
-
   abbrev pub groupMembers : List VariableNumber
   groupMembers = members l gs (groupAt p 0)
 
-  -- the bytes from n on: all for the one variable, or cut up for the group's members
+  -- the bytes from n on: all for the variable named first, or cut up for the group's members
   abbrev pub editVariable : Operation → ℕ → Change
-  editVariable op n = edit op named (drop n p ∷ [])
+  editVariable op n = edit op (variableAt p 0 ∷ []) (drop n p ∷ [])
 
   abbrev pub editGroup : Operation → ℕ → Change
   editGroup op n = edit op groupMembers (cut (map (sizeOf l) groupMembers) (drop n p))
@@ -203,24 +200,29 @@ module _ (l : Layout) (gs : List ℕ) (p : List ℕ) where
   line ShowGroup = looks (badFront (size≠ p 1) ∷ missing (noGroup gs (groupAt p 0)) ∷ []) (say 0x07 (map (λ i. i .0) groupMembers))
   line ListCurves = asks p (say 0x09 (curveList l))
   line ListFunctions = asks p (say 0x0D (functionList l))
-  line ReadVariable = looks (badFront (size≠ p 1) ∷ missing (noVariable l (variableAt p 0)) ∷ []) (tell 0x11 named)
+  line ReadVariable = looks (badFront (size≠ p 1) ∷ missing (noVariable l (variableAt p 0)) ∷ []) (tell 0x11 (variableAt p 0 ∷ []))
   line ReadGroup = looks (badFront (size≠ p 1) ∷ missing (noGroup gs (groupAt p 0)) ∷ []) (tell 0x13 groupMembers)
-  line WriteVariable = writes (badFront (size< p 1) ∷ missing (noVariable l (variableAt p 0)) ∷ writesVariable l p 1) named (editVariable Replace 1) done
-  line WriteGroup = writes (badFront (size< p 1) ∷ missing (noGroup gs (groupAt p 0)) ∷ writesGroup l gs p 1) groupMembers (editGroup Replace 1) done
+  line WriteVariable = does (badFront (size< p 1) ∷ missing (noVariable l (variableAt p 0)) ∷ writesVariable l p 1) (editVariable Replace 1)
+  line WriteGroup = does (badFront (size< p 1) ∷ missing (noGroup gs (groupAt p 0)) ∷ writesGroup l gs p 1) (editGroup Replace 1)
   line MaskVariable =
-      writes (badFront (size< p 2) ∷ missing (noVariable l (variableAt p 0)) ∷ badOperation (noOperation (byteAt p 1)) ∷ writesVariable l p 2)
-      named (editVariable (operationOf (byteAt p 1)) 2) done
+      does (badFront (size< p 2) ∷ missing (noVariable l (variableAt p 0)) ∷ badOperation (noOperation (byteAt p 1)) ∷ writesVariable l p 2)
+      (editVariable (operationOf (byteAt p 1)) 2)
   line MaskGroup =
-      writes (badFront (size< p 2) ∷ missing (noGroup gs (groupAt p 0)) ∷ badOperation (noOperation (byteAt p 1)) ∷ writesGroup l gs p 2)
-      groupMembers (editGroup (operationOf (byteAt p 1)) 2) done
-  line WriteRead =
-      writes (badFront (size< p 2) ∷ missing (noVariable l (variableAt p 0) || noVariable l (variableAt p 1)) ∷ writesVariable l p 2)
-      named (editVariable Replace 2) (tell 0x11 (variableAt p 1 ∷ []))
-  line MakeGroup =
-      does
-      (badFront (size< p 1 || ltb (length (l .sizes)) (length p)) ∷ missing (some (λ i. noVariable l (variable i)) p) ∷ badPlace (not (ascending p)) ∷ [])
-      (leb 5 (length gs)) (regroup (gs ++ setOf l (map variable p) ∷ []))
-  line RemoveGroups = does (noPayload p) false (regroup [])
+      does (badFront (size< p 2) ∷ missing (noGroup gs (groupAt p 0)) ∷ badOperation (noOperation (byteAt p 1)) ∷ writesGroup l gs p 2)
+      (editGroup (operationOf (byteAt p 1)) 2)
+  line WriteRead = record {
+    tests = badFront (size< p 2) ∷ missing (noVariable l (variableAt p 0) || noVariable l (variableAt p 1)) ∷ writesVariable l p 2;
+    full = false;
+    change = editVariable Replace 2;
+    answer = tell 0x11 (variableAt p 1 ∷ []);
+  }
+  line MakeGroup = record {
+    tests = badFront (size< p 1 || ltb (length (l .sizes)) (length p)) ∷ missing (some (λ i. noVariable l (variable i)) p) ∷ badPlace (not (ascending p)) ∷ [];
+    full = leb 5 (length gs);
+    change = regroup (gs ++ setOf l (map variable p) ∷ []);
+    answer = done;
+  }
+  line RemoveGroups = does (noPayload p) (regroup [])
   line ReadBlock =
       looks (badFront (size≠ p 3) ∷ missing (noCurve l (curveAt p 0)) ∷ badPlace (blockMissing l p) ∷ [])
       (show 0x41 p (blockPlace l (curveAt p 0) (wordAt p 1)))
@@ -229,7 +231,7 @@ module _ (l : Layout) (gs : List ℕ) (p : List ℕ) where
       (badFront (size< p 3) ∷ missing (noCurve l (curveAt p 0)) ∷ badPlace (blockMissing l p)
       ∷ badRest (not (within 1 (curveOf l (curveAt p 0) .size) (length p - 3)))
       ∷ readOnly (not (isWritable (curveOf l (curveAt p 0) .writable))) ∷ [])
-      false (fill (blockPlace l (curveAt p 0) (wordAt p 1)) (drop 3 p))
+      (fill (blockPlace l (curveAt p 0) (wordAt p 1)) (drop 3 p))
   line RunFunction =
       looks (badFront (size< p 1) ∷ missing (noFunction l (functionAt p 0)) ∷ badRest (size≠ p (1 + functionOf l (functionAt p 0) .input)) ∷ [])
       (call (functionAt p 0) (drop 1 p))
