@@ -1,5 +1,6 @@
 pub mod Computes
 pub mod Bools
+pub mod Coded
 pub mod Lists
 pub mod Chain
 pub mod Store

@@ -22,18 +22,25 @@ coded [] other n = other
 coded (x ∷ xs) other n = cond (eqb n (x .0)) (x .1) (coded xs other n)
 
 -- "The command codes are these and no others"
-unfoldable pub commandOf : ℕ → Command
-commandOf = coded (
+abbrev pub commands : List (ℕ × Command)
+commands =
     (0x00, Version) ∷ (0x02, ListVariables) ∷ (0x04, ListGroups) ∷ (0x06, ShowGroup) ∷ (0x08, ListCurves) ∷ (0x0C, ListFunctions)
     ∷ (0x10, ReadVariable) ∷ (0x12, ReadGroup)
     ∷ (0x20, WriteVariable) ∷ (0x22, WriteGroup) ∷ (0x24, MaskVariable) ∷ (0x26, MaskGroup) ∷ (0x28, WriteRead)
     ∷ (0x30, MakeGroup) ∷ (0x32, RemoveGroups)
     ∷ (0x40, ReadBlock) ∷ (0x41, WriteBlock)
-    ∷ (0x50, RunFunction) ∷ []) Unknown
+    ∷ (0x50, RunFunction)
+    ∷ []
+
+unfoldable pub commandOf : ℕ → Command
+commandOf = coded commands Unknown
 
 -- "53 set and 4F or turn on the mask's bits; 43 clear turns them off; 54 toggle and 58 xor invert them; 41 and keeps only them"
+abbrev pub operations : List (ℕ × Operation)
+operations = (0x53, TurnOn) ∷ (0x4F, TurnOn) ∷ (0x43, TurnOff) ∷ (0x54, Invert) ∷ (0x58, Invert) ∷ (0x41, KeepOnly) ∷ []
+
 unfoldable pub operationOf : ℕ → Operation
-operationOf = coded ((0x53, TurnOn) ∷ (0x4F, TurnOn) ∷ (0x43, TurnOff) ∷ (0x54, Invert) ∷ (0x58, Invert) ∷ (0x41, KeepOnly) ∷ []) Other
+operationOf = coded operations Other
 
 abbrev pub isOther : Operation → Bool
 isOther Replace = false
@@ -48,9 +55,11 @@ unfoldable pub noOperation : ℕ → Bool
 noOperation o = isOther (operationOf o)
 
 -- "plain bytes, unsigned or signed; big or little endian": a record has it as a number from 0 to 4
+abbrev pub kinds : List (ℕ × Kind)
+kinds = (0, K.Plain) ∷ (1, K.Number false true) ∷ (2, K.Number false false) ∷ (3, K.Number true true) ∷ (4, K.Number true false) ∷ []
+
 unfoldable pub kindOf : ℕ → Kind
-kindOf = coded (
-    (0, K.Plain) ∷ (1, K.Number false true) ∷ (2, K.Number false false) ∷ (3, K.Number true true) ∷ (4, K.Number true false) ∷ []) K.Unknown
+kindOf = coded kinds K.Unknown
 
 abbrev pub errorCode : WireError → ℕ
 errorCode Malformed = 0xE1

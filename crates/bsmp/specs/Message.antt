@@ -156,7 +156,7 @@ pub record Line : Type 0 where
   pub change : Change
   pub answer : Answer
 
--- "the thing to be written is busy" comes after those tests, for every command alike, and a full table of groups last
+-- "a variable to be written is busy" comes after those tests, for every command alike, and "five groups made already" last
 abbrev pub written : Change → List VariableNumber
 written nothing = []
 written (edit op is ps) = is

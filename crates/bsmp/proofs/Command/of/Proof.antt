@@ -1,6 +1,7 @@
 -- `Command::of` meets its contract: an arm has its number, and the last arm has none of them. Assumes nothing.
-use borrow.Author.Tests.{ne-eqb}
-use Rattle.bsmp.specs.Codes.{commandOf}
+use Rattle.bsmp.specs.Codes.{commands, commandOf}
+use Rattle.bsmp.specs.declared.Command.the-variants.{Unknown}
+use Rattle.bsmp.proofs.Coded.{coded-other}
 use Rattle.bsmp.proofs.Command.of.Statement.{statement}
 use Rattle.bsmp.proofs.Command.of.Tie as tie
 
@@ -13,5 +14,4 @@ of-spec =
     (λ c. simp (c .match .keys6)) (λ c. simp (c .match .keys7)) (λ c. simp (c .match .keys8)) (λ c. simp (c .match .keys9)) (λ c. simp (c .match .keys10))
     (λ c. simp (c .match .keys11)) (λ c. simp (c .match .keys12)) (λ c. simp (c .match .keys13)) (λ c. simp (c .match .keys14)) (λ c. simp (c .match .keys15))
     (λ c. simp (c .match .keys16)) (λ c. simp (c .match .keys17)) (λ c. simp (c .match .keys18))
-    (λ c. let r = c .match .rest in
-    simp (ne-eqb _ _ (r .0 .0 .0 .0 .0 .0 .0 .0 .0 .0 .0 .0 .0 .0 .0 .0 .0 .1), ne-eqb _ _ (r .0 .0 .0 .0 .0 .0 .0 .0 .0 .0 .0 .0 .0 .0 .0 .0 .1), ne-eqb _ _ (r .0 .0 .0 .0 .0 .0 .0 .0 .0 .0 .0 .0 .0 .0 .0 .1), ne-eqb _ _ (r .0 .0 .0 .0 .0 .0 .0 .0 .0 .0 .0 .0 .0 .0 .1), ne-eqb _ _ (r .0 .0 .0 .0 .0 .0 .0 .0 .0 .0 .0 .0 .0 .1), ne-eqb _ _ (r .0 .0 .0 .0 .0 .0 .0 .0 .0 .0 .0 .0 .1), ne-eqb _ _ (r .0 .0 .0 .0 .0 .0 .0 .0 .0 .0 .0 .1), ne-eqb _ _ (r .0 .0 .0 .0 .0 .0 .0 .0 .0 .0 .1), ne-eqb _ _ (r .0 .0 .0 .0 .0 .0 .0 .0 .0 .1), ne-eqb _ _ (r .0 .0 .0 .0 .0 .0 .0 .0 .1), ne-eqb _ _ (r .0 .0 .0 .0 .0 .0 .0 .1), ne-eqb _ _ (r .0 .0 .0 .0 .0 .0 .1), ne-eqb _ _ (r .0 .0 .0 .0 .0 .1), ne-eqb _ _ (r .0 .0 .0 .0 .1), ne-eqb _ _ (r .0 .0 .0 .1), ne-eqb _ _ (r .0 .0 .1), ne-eqb _ _ (r .0 .1), ne-eqb _ _ (r .1))))
+    (λ c. coded-other Unknown _ commands _ (c .match .rest)))
