@@ -105,10 +105,10 @@ impl Block {
 pub fn change(curves: &[u32], blocks: &mut [u8], payload: &[u8])
     requires { ⌜ SoundCurves (curvesOf (now curves)) (now blocks) ⌝ }
     requires { ⌜ BlockFits (curvesOf (now curves)) (now payload) ⌝ }
-    ensures { λ _. ⌜ (let curves = curvesOf (now (curves .entry)) in
+    ensures { λ _. let curves = curvesOf (now (curves .entry)) in
         let payload = now (payload .entry) in
         let block = namedBlock curves (now (blocks .entry)) payload in
-        blocksIn curves (now (blocks .exit)) ≡ set (blocksIn curves (now (blocks .entry))) (placeOf curves payload) (filled (drop 3 payload) block)) ⌝ }
+        ⌜ blocksIn curves (now (blocks .exit)) ≡ set (blocksIn curves (now (blocks .entry))) (placeOf curves payload) (filled (drop 3 payload) block) ⌝ }
 {
     let at = Block::of(curves, payload).at;
     lists::copy_into(&mut blocks[at..], &payload[3..]);
@@ -119,9 +119,9 @@ pub fn tell(curves: &[u32], blocks: &[u8], payload: &[u8], reply: &mut [u8], at:
     requires { ⌜ SoundCurves (curvesOf (now curves)) (now blocks) ⌝ }
     requires { ⌜ BlockRead (curvesOf (now curves)) (now payload) ⌝ }
     requires { ⌜ at + 4099 ≤ length (now reply) ⌝ }
-    ensures { λ r. ⌜ (let payload = now (payload .entry) in
+    ensures { λ r. let payload = now (payload .entry) in
         let block = namedBlock (curvesOf (now (curves .entry))) (now (blocks .entry)) payload in
-        Answered (now (reply .entry)) at (payload ++ block) r (now (reply .exit))) ⌝ }
+        ⌜ Answered (now (reply .entry)) at (payload ++ block) r (now (reply .exit)) ⌝ }
 {
     let block = Block::of(curves, payload);
     lists::read_value(payload, 0, 3, reply, at);
@@ -164,8 +164,8 @@ fn list_record(curve: Curve, reply: &mut [u8], at: usize)
 pub fn list(curves: &[u32], reply: &mut [u8], at: usize) -> usize
     requires { ⌜ usableCurves (curvesOf (now curves)) ≡ true ⌝ }
     requires { ⌜ at + 4099 ≤ length (now reply) ⌝ }
-    ensures { λ r. ⌜ (let l = curvesOnly (curvesOf (now (curves .entry))) in
-        Answered (now (reply .entry)) at (curveList l) r (now (reply .exit))) ⌝ }
+    ensures { λ r. let l = curvesOnly (curvesOf (now (curves .entry))) in
+        ⌜ Answered (now (reply .entry)) at (curveList l) r (now (reply .exit)) ⌝ }
 {
     let n = records::curve_count(curves);
     let mut i = 0;

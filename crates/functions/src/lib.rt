@@ -44,8 +44,8 @@ fn list_byte(f: Function) -> u8
 pub fn list(functions: &[u8], reply: &mut [u8], at: usize) -> usize
     requires { ⌜ usableFunctions (functionsOf (now functions)) ≡ true ⌝ }
     requires { ⌜ at + 4099 ≤ length (now reply) ⌝ }
-    ensures { λ r. ⌜ (let l = functionsOnly (functionsOf (now (functions .entry))) in
-        Answered (now (reply .entry)) at (functionList l) r (now (reply .exit))) ⌝ }
+    ensures { λ r. let l = functionsOnly (functionsOf (now (functions .entry))) in
+        ⌜ Answered (now (reply .entry)) at (functionList l) r (now (reply .exit)) ⌝ }
 {
     let n = records::function_count(functions);
     let mut i = 0;

@@ -60,9 +60,9 @@ fn writes(
 ) -> Check
     requires { ⌜ (length (now sizes) ≤ 64) × (front ≤ 2) ⌝ }
     requires { ⌜ GroupKnown (now groups) (now payload) ⌝ }
-    ensures { λ r. ⌜ (let l = variablesOnly (now (sizes .entry)) writable in
+    ensures { λ r. let l = variablesOnly (now (sizes .entry)) writable in
         let members = groupMembers l (now (groups .entry)) (now (payload .entry)) in
-        r ≡ first (writesGroup l (now (groups .entry)) (now (payload .entry)) front ++ lastTests (some (marked busy) members) false) Fail Pass) ⌝ }
+        ⌜ r ≡ first (writesGroup l (now (groups .entry)) (now (payload .entry)) front ++ lastTests (some (marked busy) members) false) Fail Pass ⌝ }
 {
     let set = named_set(writable, groups, payload);
     if payload.len() != front + sets::set_bytes(sizes, set) {
@@ -192,10 +192,10 @@ pub fn change(
 )
     requires { ⌜ Sound (now sizes) (now values) ⌝ }
     requires { ⌜ GroupFits (variablesOnly (now sizes) writable) (now groups) (now payload) front ⌝ }
-    ensures { λ _. ⌜ (let l = variablesOnly (now (sizes .entry)) writable in
+    ensures { λ _. let l = variablesOnly (now (sizes .entry)) writable in
         let members = groupMembers l (now (groups .entry)) (now (payload .entry)) in
         let parts = cut (map (sizeOf l) members) (drop front (now (payload .entry))) in
-        cut (l .sizes) (now (values .exit)) ≡ edited op members parts (cut (l .sizes) (now (values .entry)))) ⌝ }
+        ⌜ cut (l .sizes) (now (values .exit)) ≡ edited op members parts (cut (l .sizes) (now (values .entry))) ⌝ }
 {
     let set = named_set(writable, groups, payload);
     sets::change_members(sizes, set, values, op, payload, front);
@@ -214,9 +214,9 @@ pub fn tell(
     requires { ⌜ Sound (now sizes) (now values) ⌝ }
     requires { ⌜ GroupKnown (now groups) (now payload) ⌝ }
     requires { ⌜ at + 4099 ≤ length (now reply) ⌝ }
-    ensures { λ r. ⌜ (let l = variablesOnly (now (sizes .entry)) writable in
+    ensures { λ r. let l = variablesOnly (now (sizes .entry)) writable in
         let members = groupMembers l (now (groups .entry)) (now (payload .entry)) in
-        Answered (now (reply .entry)) at (told (cut (l .sizes) (now (values .entry))) members) r (now (reply .exit))) ⌝ }
+        ⌜ Answered (now (reply .entry)) at (told (cut (l .sizes) (now (values .entry))) members) r (now (reply .exit)) ⌝ }
 {
     let set = named_set(writable, groups, payload);
     sets::read_members(sizes, set, values, reply, at)
@@ -234,9 +234,9 @@ pub fn show(
     requires { ⌜ length (now sizes) ≤ 64 ⌝ }
     requires { ⌜ GroupKnown (now groups) (now payload) ⌝ }
     requires { ⌜ at + 4099 ≤ length (now reply) ⌝ }
-    ensures { λ r. ⌜ (let l = variablesOnly (now (sizes .entry)) writable in
+    ensures { λ r. let l = variablesOnly (now (sizes .entry)) writable in
         let members = groupMembers l (now (groups .entry)) (now (payload .entry)) in
-        Answered (now (reply .entry)) at (map (λ i. i .0) members) r (now (reply .exit))) ⌝ }
+        ⌜ Answered (now (reply .entry)) at (map (λ i. i .0) members) r (now (reply .exit)) ⌝ }
 {
     let set = named_set(writable, groups, payload);
     sets::list_members(sizes.len(), set, reply, at)
@@ -245,8 +245,8 @@ pub fn show(
 // A group's byte in the list: its top bit on if it's writable, and the member count.
 fn list_byte(sizes: &[u8], writable: u64, groups: &[u64], g: GroupNumber) -> u8
     requires { ⌜ (length (now sizes) ≤ 64) × (g .0 < groupCount (now groups)) ⌝ }
-    ensures { λ r. ⌜ (let l = variablesOnly (now (sizes .entry)) writable in
-        r ≡ listed (writableGroup l (now (groups .entry)) g) (length (members l (now (groups .entry)) g))) ⌝ }
+    ensures { λ r. let l = variablesOnly (now (sizes .entry)) writable in
+        ⌜ r ≡ listed (writableGroup l (now (groups .entry)) g) (length (members l (now (groups .entry)) g)) ⌝ }
 {
     let set = sets::group_set(writable, groups, g);
     let members = sets::declared(set, sizes.len());
@@ -261,8 +261,8 @@ fn list_byte(sizes: &[u8], writable: u64, groups: &[u64], g: GroupNumber) -> u8
 pub fn list(sizes: &[u8], writable: u64, groups: &[u64], reply: &mut [u8], at: usize) -> usize
     requires { ⌜ (length (now sizes) ≤ 64) × (length (now groups) ≤ 5) ⌝ }
     requires { ⌜ at + 4099 ≤ length (now reply) ⌝ }
-    ensures { λ r. ⌜ (let l = variablesOnly (now (sizes .entry)) writable in
-        Answered (now (reply .entry)) at (groupList l (now (groups .entry))) r (now (reply .exit))) ⌝ }
+    ensures { λ r. let l = variablesOnly (now (sizes .entry)) writable in
+        ⌜ Answered (now (reply .entry)) at (groupList l (now (groups .entry))) r (now (reply .exit)) ⌝ }
 {
     let count = 3 + groups.len();
     let mut g = 0;

@@ -91,8 +91,8 @@ pub fn change_value(
     from: usize,
 )
     requires { ⌜ (at + n ≤ length (now store)) × (from + n ≤ length (now payload)) ⌝ }
-    ensures { λ _. ⌜ (let value = changed op (part (now (store .entry)) at n) (part (now (payload .entry)) from n) in
-        now (store .exit) ≡ put (now (store .entry)) at value) ⌝ }
+    ensures { λ _. let value = changed op (part (now (store .entry)) at n) (part (now (payload .entry)) from n) in
+        ⌜ now (store .exit) ≡ put (now (store .entry)) at value ⌝ }
 {
     mask_into(&mut store[at..], op, &payload[from..from + n]);
 }

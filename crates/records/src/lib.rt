@@ -363,9 +363,9 @@ pub fn usable_board(
     values: &[u8],
     blocks: &[u8],
 ) -> Board
-    ensures { λ r. ⌜ (let records = columns count (now (writable .entry)) (now (sizes .entry)) (now (kinds .entry)) in
+    ensures { λ r. let records = columns count (now (writable .entry)) (now (sizes .entry)) (now (kinds .entry)) in
         let t = tableOf records (now (curves .entry)) (now (functions .entry)) in
-        r ≡ boardOf t (lent (now (values .entry)) (now (blocks .entry)) (groupsOf groups))) ⌝ }
+        ⌜ r ≡ boardOf t (lent (now (values .entry)) (now (blocks .entry)) (groupsOf groups)) ⌝ }
 {
     let records_checked = usable_records(count, writable, sizes, kinds);
     if !records_checked.usable {

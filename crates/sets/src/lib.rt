@@ -141,8 +141,8 @@ fn read_turn(
 pub fn read_members(sizes: &[u8], set: u64, values: &[u8], reply: &mut [u8], at: usize) -> usize
     requires { ⌜ Sound (now sizes) (now values) ⌝ }
     requires { ⌜ at + 4096 ≤ length (now reply) ⌝ }
-    ensures { λ r. ⌜ (let sizes = now (sizes .entry) in
-        Placed (told (cut sizes (now (values .entry))) (membersOf set sizes)) 4096 (now (reply .entry)) at r (now (reply .exit))) ⌝ }
+    ensures { λ r. let sizes = now (sizes .entry) in
+        ⌜ Placed (told (cut sizes (now (values .entry))) (membersOf set sizes)) 4096 (now (reply .entry)) at r (now (reply .exit)) ⌝ }
 {
     // all variables, as of group 0: their values are the store as it stands
     if set == !0 {
@@ -174,8 +174,8 @@ fn change_turn(
     from: usize,
 ) -> usize
     requires { ⌜ (i .0 < 64) × (at + n ≤ length (now values)) × (from + cond (marked set i) n 0 ≤ length (now payload)) ⌝ }
-    ensures { λ r. ⌜ (let value = changed op (part (now (values .entry)) at n) (part (now (payload .entry)) from n) in
-        Turned (marked set i) n value (now (values .entry)) at from r (now (values .exit))) ⌝ }
+    ensures { λ r. let value = changed op (part (now (values .entry)) at n) (part (now (payload .entry)) from n) in
+        ⌜ Turned (marked set i) n value (now (values .entry)) at from r (now (values .exit)) ⌝ }
 {
     if is_marked(set, i) {
         lists::change_value(values, at, n, op, payload, from);
@@ -195,9 +195,9 @@ pub fn change_members(
 )
     requires { ⌜ Sound (now sizes) (now values) ⌝ }
     requires { ⌜ front + setBytes set (now sizes) ≤ length (now payload) ⌝ }
-    ensures { λ _. ⌜ (let sizes = now (sizes .entry) in
+    ensures { λ _. let sizes = now (sizes .entry) in
         let parts = cut (map (sizeAt sizes) (membersOf set sizes)) (drop front (now (payload .entry))) in
-        cut sizes (now (values .exit)) ≡ edited op (membersOf set sizes) parts (cut sizes (now (values .entry)))) ⌝ }
+        ⌜ cut sizes (now (values .exit)) ≡ edited op (membersOf set sizes) parts (cut sizes (now (values .entry))) ⌝ }
 {
     if set == !0 {
         let all = values.len();

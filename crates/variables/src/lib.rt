@@ -37,8 +37,8 @@ fn writes(
     busy: bool,
 ) -> Check
     requires { ⌜ (length (now sizes) ≤ 64) × (i ≡ variableAt (now payload) 0) × (i .0 < length (now sizes)) × (front ≤ 2) ⌝ }
-    ensures { λ r. ⌜ (let l = variablesOnly (now (sizes .entry)) writable in
-        r ≡ first (writesVariable l (now (payload .entry)) front ++ lastTests busy false) Fail Pass) ⌝ }
+    ensures { λ r. let l = variablesOnly (now (sizes .entry)) writable in
+        ⌜ r ≡ first (writesVariable l (now (payload .entry)) front ++ lastTests busy false) Fail Pass ⌝ }
 {
     let is_whole = payload.len() == front + size_of(sizes, i);
     let is_writable = sets::is_marked(writable, i);
@@ -136,8 +136,8 @@ fn change_one(
 )
     requires { ⌜ Sound (now sizes) (now values) ⌝ }
     requires { ⌜ (i .0 < length (now sizes)) × (length (now bytes) ≡ front + sizeAt (now sizes) i) ⌝ }
-    ensures { λ _. ⌜ (let sizes = now (sizes .entry) in
-        cut sizes (now (values .exit)) ≡ edited op (i ∷ []) (drop front (now (bytes .entry)) ∷ []) (cut sizes (now (values .entry)))) ⌝ }
+    ensures { λ _. let sizes = now (sizes .entry) in
+        ⌜ cut sizes (now (values .exit)) ≡ edited op (i ∷ []) (drop front (now (bytes .entry)) ∷ []) (cut sizes (now (values .entry))) ⌝ }
 {
     let at = lists::offset(sizes, i.0);
     lists::change_value(values, at, size_of(sizes, i), op, bytes, front);
@@ -147,9 +147,9 @@ fn change_one(
 pub fn change(sizes: &[u8], values: &mut [u8], op: Operation, payload: &[u8], front: usize)
     requires { ⌜ Sound (now sizes) (now values) ⌝ }
     requires { ⌜ OneFits (now sizes) (now payload) front ⌝ }
-    ensures { λ _. ⌜ (let sizes = now (sizes .entry) in
+    ensures { λ _. let sizes = now (sizes .entry) in
         let payload = now (payload .entry) in
-        cut sizes (now (values .exit)) ≡ edited op (variableAt payload 0 ∷ []) (drop front payload ∷ []) (cut sizes (now (values .entry)))) ⌝ }
+        ⌜ cut sizes (now (values .exit)) ≡ edited op (variableAt payload 0 ∷ []) (drop front payload ∷ []) (cut sizes (now (values .entry))) ⌝ }
 {
     change_one(
         sizes,
@@ -165,8 +165,8 @@ pub fn change(sizes: &[u8], values: &mut [u8], op: Operation, payload: &[u8], fr
 pub fn store(sizes: &[u8], values: &mut [u8], i: VariableNumber, bytes: &[u8])
     requires { ⌜ Sound (now sizes) (now values) ⌝ }
     requires { ⌜ (i .0 < length (now sizes)) × (length (now bytes) ≡ sizeAt (now sizes) i) ⌝ }
-    ensures { λ _. ⌜ (let sizes = now (sizes .entry) in
-        cut sizes (now (values .exit)) ≡ edited Replace (i ∷ []) (now (bytes .entry) ∷ []) (cut sizes (now (values .entry)))) ⌝ }
+    ensures { λ _. let sizes = now (sizes .entry) in
+        ⌜ cut sizes (now (values .exit)) ≡ edited Replace (i ∷ []) (now (bytes .entry) ∷ []) (cut sizes (now (values .entry))) ⌝ }
 {
     change_one(sizes, values, i, Operation::Replace, bytes, 0);
 }
@@ -182,8 +182,8 @@ pub fn tell(
 ) -> usize
     requires { ⌜ Sound (now sizes) (now values) ⌝ }
     requires { ⌜ (j < length (now payload)) × (byteAt (now payload) j < length (now sizes)) × (at + 4099 ≤ length (now reply)) ⌝ }
-    ensures { λ r. ⌜ (let value = told (cut (now (sizes .entry)) (now (values .entry))) (variableAt (now (payload .entry)) j ∷ []) in
-        Answered (now (reply .entry)) at value r (now (reply .exit))) ⌝ }
+    ensures { λ r. let value = told (cut (now (sizes .entry)) (now (values .entry))) (variableAt (now (payload .entry)) j ∷ []) in
+        ⌜ Answered (now (reply .entry)) at value r (now (reply .exit)) ⌝ }
 {
     let i = parts::variable_at(payload, j);
     let from = lists::offset(sizes, i.0);
