@@ -6,18 +6,15 @@ use Prim.Native.Nat.{ℕ}
 use native.Mathlib.Omega.{arith}
 use borrow.Author.Tests.{not-false}
 use Rattle.bsmp.specs.Base.{Test, first}
-use Rattle.bsmp.specs.Board.{usable}
+use Rattle.bsmp.specs.Board.{Table, layout, usable}
+use Rattle.bsmp.specs.Store.{Lent, held}
 use Rattle.bsmp.specs.declared.Refusal.{Refusal}
 use Rattle.bsmp.proofs.Chain.{clear, broken-at, clear-at, first-case}
 use Rattle.wire.proofs.Opening.{first-through}
-use Rattle.records.specs.declared.Records.{Records}
-use Rattle.records.specs.declared.Groups.{Groups}
 use Rattle.records.specs.declared.Board.{Board}
-use Rattle.records.specs.Lending.{groupsOf, tableOf, lent}
 use Rattle.records.specs.Checks.{boardOf}
 use Rattle.records.proofs.Whole.{board-usable}
 use Rattle.records.proofs.Sound.{Sound, usable-sound}
-use Rattle.results.specs.Results.{stateOf}
 use Rattle.results.specs.declared.Judged.{Judged}
 use Rattle.results.specs.declared.Judged.the-variants.{Pass, Refuse}
 
@@ -43,10 +40,9 @@ module _ (ts : List (Test Refusal)) (j : Judged) (h : j ≡ first ts Refuse Pass
       clear-at ts (first-case (λ v. v ≡ Pass → clear ts) ts Refuse Pass (λ n k. absurd (refuse-no n k)) (λ c k. c) (sym h ∙ e))
 
 -- refusal 1, as the board's check told it
-module _ (r : Records) (cs fs : List ℕ) (g : Groups) (vs bs : List ℕ) where
-  pub board-told : (c : Board) (b : Bool) → c ≡ boardOf (tableOf r cs fs) (lent vs bs (groupsOf g)) → not (c .usable) ≡ b
-      → not (usable (tableOf r cs fs) (stateOf r cs fs g vs bs)) ≡ b
-  board-told c b e h = rw (← board-usable (tableOf r cs fs) (lent vs bs (groupsOf g)) c e) h
+module _ (t : Table) (x : Lent) where
+  pub board-told : (c : Board) (b : Bool) → c ≡ boardOf t x → not (c .usable) ≡ b → not (usable t (held (layout t) x)) ≡ b
+  board-told c b e h = rw (← board-usable t x c e) h
 
-  pub board-sound : not (usable (tableOf r cs fs) (stateOf r cs fs g vs bs)) ≡ false → Sound (tableOf r cs fs) (lent vs bs (groupsOf g))
-  board-sound h = usable-sound (tableOf r cs fs) (lent vs bs (groupsOf g)) (not-false _ h)
+  pub board-sound : not (usable t (held (layout t) x)) ≡ false → Sound t x
+  board-sound h = usable-sound t x (not-false _ h)
