@@ -21,7 +21,7 @@ pub fn packet<'a>(
     reply: &'a mut [u8],
 ) -> Outcome<'a> {
     // SAFETY: each pointer is a slice's or a reference's, with its length; Rust's borrows keep what is written apart.
-    let told = unsafe {
+    let plain = unsafe {
         raw::bsmp_packet(
             table.variables.as_ptr(),
             table.variables.len(),
@@ -43,7 +43,7 @@ pub fn packet<'a>(
             reply.len(),
         )
     };
-    Outcome::told(told, request, reply)
+    Outcome::of(plain, request, reply)
 }
 
 /// Hands in a function's result and whether an answer was due; writes reply 51 or 53, or stays silent if none was due.
@@ -65,7 +65,7 @@ pub fn function_result<'a>(
         Ran::Failed(error) => (true, error, &[][..]),
     };
     // SAFETY: as for `packet`.
-    let told = unsafe {
+    let plain = unsafe {
         raw::bsmp_function_result(
             table.variables.as_ptr(),
             table.variables.len(),
@@ -88,7 +88,7 @@ pub fn function_result<'a>(
             reply.len(),
         )
     };
-    Outcome::told(told, &[], reply)
+    Outcome::of(plain, &[], reply)
 }
 
 /// Stores a new value into any variable, read-only or busy too; only those bytes change. Refusals 1, 9 and 10.
@@ -131,8 +131,8 @@ pub fn read_signed(
     variable: VariableNumber,
     bytes: &[u8],
 ) -> Result<i64, Refusal> {
-    let told = read(raw::bsmp_read_signed, variables, variable, bytes);
-    done(told.refusal, told.number)
+    let plain = read(raw::bsmp_read_signed, variables, variable, bytes);
+    done(plain.refusal, plain.number)
 }
 
 /// Reads an unsigned variable's bytes as a number. Refusals 1, 9, 11 and 10, in this order.
@@ -141,8 +141,8 @@ pub fn read_unsigned(
     variable: VariableNumber,
     bytes: &[u8],
 ) -> Result<u64, Refusal> {
-    let told = read(raw::bsmp_read_unsigned, variables, variable, bytes);
-    done(told.refusal, told.number)
+    let plain = read(raw::bsmp_read_unsigned, variables, variable, bytes);
+    done(plain.refusal, plain.number)
 }
 
 /// Writes a number as a signed variable's bytes: the only bytes that read as it. Refusals 1, 9, 11, 10 and 12.

@@ -1,5 +1,5 @@
 //! What a call ends in.
-use crate::raw::Told;
+use crate::raw::PlainOutcome;
 use crate::FunctionNumber;
 use std::fmt;
 
@@ -81,11 +81,11 @@ impl Refusal {
     }
 
     // The archive is proved to tell 1 to 12; any other number means that something else was linked in its place.
-    fn told(number: u64) -> Refusal {
+    fn numbered(number: u64) -> Refusal {
         u8::try_from(number)
             .ok()
             .and_then(Refusal::of)
-            .unwrap_or_else(|| unreachable!("the archive told refusal {}", number))
+            .unwrap_or_else(|| unreachable!("the archive gave refusal {}", number))
     }
 }
 
@@ -118,17 +118,17 @@ pub enum Outcome<'a> {
 }
 
 impl<'a> Outcome<'a> {
-    pub(crate) fn told(told: Told, request: &'a [u8], reply: &'a [u8]) -> Outcome<'a> {
-        let (input, length) = (told.input as usize, told.length as usize);
-        match told.kind {
-            Told::REPLY => Outcome::Reply(&reply[..length]),
-            Told::SILENCE => Outcome::Silence,
-            Told::RUN => Outcome::Run {
-                function: FunctionNumber(told.function as usize),
+    pub(crate) fn of(plain: PlainOutcome, request: &'a [u8], reply: &'a [u8]) -> Outcome<'a> {
+        let (input, length) = (plain.input as usize, plain.length as usize);
+        match plain.kind {
+            PlainOutcome::REPLY => Outcome::Reply(&reply[..length]),
+            PlainOutcome::SILENCE => Outcome::Silence,
+            PlainOutcome::RUN => Outcome::Run {
+                function: FunctionNumber(plain.function as usize),
                 input: &request[input..input + length],
-                due: told.due,
+                due: plain.due,
             },
-            _ => Outcome::Refused(Refusal::told(u64::from(told.refusal))),
+            _ => Outcome::Refused(Refusal::numbered(u64::from(plain.refusal))),
         }
     }
 }
@@ -147,6 +147,6 @@ pub(crate) fn done<T>(refusal: u64, number: T) -> Result<T, Refusal> {
     if refusal == 0 {
         Ok(number)
     } else {
-        Err(Refusal::told(refusal))
+        Err(Refusal::numbered(refusal))
     }
 }

@@ -8,7 +8,7 @@ use std::mem::{align_of, size_of};
 /// How a call ends, in numbers. What a kind has no use for is 0.
 #[repr(C)]
 #[derive(Clone, Copy, Debug, PartialEq, Eq)]
-pub struct Told {
+pub struct PlainOutcome {
     /// One of the four below.
     pub kind: u8,
     /// 01's number of a local refusal.
@@ -23,7 +23,7 @@ pub struct Told {
     pub length: u64,
 }
 
-impl Told {
+impl PlainOutcome {
     /// A reply.
     pub const REPLY: u8 = 0;
     /// Silence.
@@ -37,7 +37,7 @@ impl Told {
 /// What bytes read as, signed.
 #[repr(C)]
 #[derive(Clone, Copy, Debug, PartialEq, Eq)]
-pub struct ToldSigned {
+pub struct PlainSignedReading {
     /// 0, or 01's number of the refusal.
     pub refusal: u64,
     /// The number, or 0 if refused.
@@ -47,7 +47,7 @@ pub struct ToldSigned {
 /// What bytes read as, unsigned.
 #[repr(C)]
 #[derive(Clone, Copy, Debug, PartialEq, Eq)]
-pub struct ToldUnsigned {
+pub struct PlainUnsignedReading {
     /// 0, or 01's number of the refusal.
     pub refusal: u64,
     /// The number, or 0 if refused.
@@ -59,9 +59,9 @@ const _: () = {
     assert!(size_of::<usize>() == 8);
     assert!(size_of::<Variable>() == 3 && align_of::<Variable>() == 1);
     assert!(size_of::<Groups>() == 48 && align_of::<Groups>() == 8);
-    assert!(size_of::<Told>() == 32 && align_of::<Told>() == 8);
-    assert!(size_of::<ToldSigned>() == 16 && align_of::<ToldSigned>() == 8);
-    assert!(size_of::<ToldUnsigned>() == 16 && align_of::<ToldUnsigned>() == 8);
+    assert!(size_of::<PlainOutcome>() == 32 && align_of::<PlainOutcome>() == 8);
+    assert!(size_of::<PlainSignedReading>() == 16 && align_of::<PlainSignedReading>() == 8);
+    assert!(size_of::<PlainUnsignedReading>() == 16 && align_of::<PlainUnsignedReading>() == 8);
 };
 
 extern "C" {
@@ -85,7 +85,7 @@ extern "C" {
         request_length: usize,
         reply: *mut u8,
         reply_length: usize,
-    ) -> Told;
+    ) -> PlainOutcome;
 
     /// [`crate::function_result`] in numbers; `output` counts only if not `failed`, `error` only if `failed`.
     pub fn bsmp_function_result(
@@ -108,7 +108,7 @@ extern "C" {
         output_length: usize,
         reply: *mut u8,
         reply_length: usize,
-    ) -> Told;
+    ) -> PlainOutcome;
 
     /// [`crate::board_store`] in numbers: 0, or the refusal's.
     pub fn bsmp_board_store(
@@ -135,7 +135,7 @@ extern "C" {
         variable: u64,
         bytes: *const u8,
         bytes_length: usize,
-    ) -> ToldSigned;
+    ) -> PlainSignedReading;
 
     /// [`crate::read_unsigned`] in numbers.
     pub fn bsmp_read_unsigned(
@@ -144,7 +144,7 @@ extern "C" {
         variable: u64,
         bytes: *const u8,
         bytes_length: usize,
-    ) -> ToldUnsigned;
+    ) -> PlainUnsignedReading;
 
     /// [`crate::write_signed`] in numbers: 0, or the refusal's.
     pub fn bsmp_write_signed(
@@ -174,7 +174,7 @@ mod tests {
     // Offsets within a struct, which rustc 1.63 can't tell at compile time.
     #[test]
     fn fields_stand_where_the_archive_puts_them() {
-        let told = Told {
+        let plain = PlainOutcome {
             kind: 0,
             refusal: 0,
             due: false,
@@ -182,14 +182,14 @@ mod tests {
             input: 0,
             length: 0,
         };
-        let start = &told as *const Told as usize;
+        let start = &plain as *const PlainOutcome as usize;
         let places = [
-            &told.kind as *const u8 as usize,
-            &told.refusal as *const u8 as usize,
-            &told.due as *const bool as usize,
-            &told.function as *const u64 as usize,
-            &told.input as *const u64 as usize,
-            &told.length as *const u64 as usize,
+            &plain.kind as *const u8 as usize,
+            &plain.refusal as *const u8 as usize,
+            &plain.due as *const bool as usize,
+            &plain.function as *const u64 as usize,
+            &plain.input as *const u64 as usize,
+            &plain.length as *const u64 as usize,
         ];
         assert_eq!(places.map(|place| place - start), [0, 1, 2, 8, 16, 24]);
     }

@@ -15,8 +15,8 @@ BOARD: types {type: the crate that declares it}; table {fn, walk, spec, read, ta
 SHAPE: out [kind, type]; params [[name, kind, type]], kind: records | mut | shr | state | view | int | bool | struct | enum;
        work [the parameters' names in the callee's order] where it is another;
        answer {type, out [field, number], NAME [field, number] of each state} where there are states;
-       said {turn, work, entry, uses}: the type of what a call comes to, and the one equation that the two contracts state of it: $turn is what it comes to, $r the result,
-            and each state and each `mut` by its name is what it is last; `entry` only where it is another.
+       said {turn, work, entry, uses}: the type of what a call comes to, and how the two contracts say what the call leaves, which is equal to it: $r is the result, and each
+            state and each `mut` by its name is what it is last; `entry` only where it is another.
 An entry's `Proof` gives `turnOf`, what a call comes to by the lent records and the other arguments, and `agree`, that it is the same of the records that the table says.
 """
 import os, sys, json, re, string
@@ -81,7 +81,7 @@ for p in P:
     if p in plains or p in reads: p["R"] = Row("struct" if p in reads else p["kind"], p["ty"]); p["row"] = p["R"].row
     elif p is not rec: p["row"] = p["ty"]
 a = S.get("answer"); sd = S["said"]
-def says(which, turn, r, lasts): return string.Template(sd.get(which, sd["work"])).substitute(turn=turn, r=r, **lasts)
+def says(which, turn, r, lasts): return string.Template(sd.get(which, sd["work"])).substitute(r=r, **lasts) + " ≡ " + turn
 SLOT = {"records": "SliceRefOf", "shr": "SliceRefOf", "mut": "SliceRefMutOf", "state": "RefMutOf", "view": "RefOf"}
 def slot(p, j=None):
     if p in plains: return f"plain (λ _. {p['row']})"
@@ -353,8 +353,7 @@ exI = lst([exF[n] for n in ex0])
 w(f"  exits : (u : Val) (y : Ans) → Known u y → ent 𝓤 (⋆ 𝓤 H A ({exI})) (Post ({RO.mach(yo)}))"); w("  exits u y e =")
 lastv = lambda p: fins("y", p) if p in muts else fst[p["name"]] if p in sts else "tt"
 w(f"      qed W ({exI}) ∵ suffices ! _ (ends-at 𝓤 H A ended stayed (clauses {TO} 𝓤) W bound ({RO.mach(yo)}) {yo} {tup([lastv(p) for p in P])} {tup(['e .len-' + p['name'] if p in muts else 'tt' for p in P])}) $")
-right = string.Template(sd.get("entry", sd["work"]).split(" ≡ ")[1]).substitute(turn="x")
-w(f"      says ! (e .said ∙ ap (λ (x : {sd['turn']}). {right}) (agree {lawargs})) $" if right != "x" else f"      says ! (e .said ∙ agree {lawargs}) $")
+w(f"      says ! (e .said ∙ agree {lawargs}) $")
 cx = Cx(ex0, "      ")
 for p in reads:
     n = p["name"]; cx.move(f"obs-{n}", f"bor-{n}"); v = f"(vptr b-{n} o-{n} ∷ [])"; cx.step(f"feqI ! (List Val) {v} {v} refl"); cx.step("fjoin3 !"); cx.c[0:2] = [f"O-{n}"]

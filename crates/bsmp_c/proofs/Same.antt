@@ -1,120 +1,112 @@
--- What a call comes to by the taken records is what it comes to by the lent ones, for every number of records. Assumes nothing.
+-- What a call comes to by the records that the columns say is what it comes to by the lent ones, however many. Assumes nothing.
 use mathlib.Core.Path.{_≡_, refl, sym, ap, _∙_}
 use mathlib.Core.Bool.{Bool, true, false, not}
 use mathlib.Core.List.{List}
 use Prim.Native.Nat.{ℕ, _<_}
 use native.Mathlib.Omega.{arith}
-use lib.IntN.{ℤ, pos}
+use lib.IntN.{ℤ}
 use lib.ListN.{length}
-use Rattle.bsmp.specs.Board.{Table, layout, blockSizes, usable, usableVariables}
+use Rattle.bsmp.specs.Board.{layout, blockSizes, usable, usableVariables, variable, function}
 use Rattle.bsmp.specs.Packet.{Result, refuse, packet, functionResult, boardStore}
 use Rattle.bsmp.specs.Number.{Reading, Written, reading, writing}
 use Rattle.bsmp.specs.declared.Variable.{Variable}
-use Rattle.bsmp.specs.declared.VariableNumber.{VariableNumber}
-use Rattle.bsmp.specs.declared.FunctionNumber.{FunctionNumber}
 use Rattle.bsmp.specs.declared.Refusal.the-variants.{BoardUnusable}
 use Rattle.bsmp.specs.declared.Outcome.the-variants as O
 use Rattle.bsmp.proofs.Chain.{first-stop}
 use Rattle.bsmp.proofs.Store.{join-cut}
-use Rattle.records.specs.Lending.{recordsOf, groupsOf, lent}
-use Rattle.records.specs.declared.Groups.{Groups}
+use Rattle.records.specs.Lending.{recordsOf, groupsOf}
 use Rattle.records.proofs.Sound.{usable-sound, variables-most}
 use Rattle.wire.specs.Opening.{placed}
-use Rattle.node.specs.Promise.{lentState, tableWith, Lasting, lasting}
-use Rattle.results.specs.Results.{replied, repliedOf, kept, keptOf}
-use Rattle.results.specs.declared.Ran.{Ran}
+use Rattle.node.specs.Promise.{tableWith, lasting}
+use Rattle.results.specs.Results.{ranOf, resultLeft, resultLeftOf, storeLeft, storeLeftOf}
 use Rattle.results.specs.declared.Stored.the-variants as S
-use Rattle.readings.specs.Answers.{writes}
-use Rattle.taken.specs.Taken.{takenOf}
-use Rattle.calls.specs.Board.{boardTable}
-use Rattle.calls.specs.Comes.{packetOf, resultOf, storeOf, signedOf, unsignedOf, signedBytesOf, unsignedBytesOf}
-use Rattle.taken.proofs.Taken.{taken-same}
+use Rattle.readings.specs.Answers.{writingLeftOf}
+use Rattle.columns.specs.Columns.{columnsOf}
+use Rattle.columns.proofs.Columns.{columns-same}
+use Rattle.plain.specs.Lending.{Lending, tableIn, lentIn, heldIn}
+use Rattle.plain.specs.Numbers.{ranFrom, plainReadingOf}
+use Rattle.plain.specs.Calls.{PlainPacketLeft, plainPacketLeftOf, packetOf, PlainResultLeft, plainResultLeftOf, resultOf, PlainBytesLeft, plainStoreLeftOf, plainWritingLeftOf, storeOf, writingOf, readingOf}
 
+-- the same with other variable records
+abbrev pub withVariables : List Variable → Lending → Lending
+withVariables vs x = record { variables = vs; curves = x .curves; functions = x .functions; groups = x .groups; values = x .values; blocks = x .blocks }
+
+abbrev pub byColumns : Lending → Lending
+byColumns x = withVariables (recordsOf (columnsOf (x .variables))) x
+
+-- more than 64 records break a rule
 broken : (b : Bool) → (b ≡ true → ⊥) → not b ≡ true
 broken true h = absurd (h refl)
 broken false h = refl
 
--- more than 64 records break a rule
 long-variables : (vs : List Variable) → 64 < length vs → not (usableVariables vs) ≡ true
 long-variables vs h = broken (usableVariables vs) (λ e. omega (arith, variables-most vs e))
 
-long-board : (vs : List Variable) (cs fs : List ℕ) (g : Groups) (values blocks : List ℕ) → 64 < length vs
-    → not (usable (boardTable vs cs fs) (lentState (boardTable vs cs fs) values blocks g)) ≡ true
-long-board vs cs fs g values blocks h =
-    broken (usable (boardTable vs cs fs) (lentState (boardTable vs cs fs) values blocks g))
-    (λ e. omega (arith, variables-most vs (usable-sound (boardTable vs cs fs) (lent values blocks (groupsOf g)) e .variables)))
+long-board : (x : Lending) → 64 < length (x .variables) → not (usable (tableIn x) (heldIn x)) ≡ true
+long-board x h = broken (usable (tableIn x) (heldIn x)) (λ e. omega (arith, variables-most (x .variables) (usable-sound (tableIn x) (lentIn x) e .variables)))
 
-module _ (cs fs : List ℕ) (g : Groups) (own multicast busy : ℕ) (values blocks request reply : List ℕ) where
-  abbrev of : List Variable → Lasting
-  of us = packetOf us cs fs g own multicast busy values blocks request reply
+-- so a call on more of them is refused, and leaves all as it was
+module _ (x : Lending) (own multicast busy : ℕ) (request reply : List ℕ) where
+  abbrev untouched : PlainPacketLeft
+  untouched =
+      plainPacketLeftOf (record { outcome = O.Refused BoardUnusable; groups = tableWith (groupsOf (x .groups)) (x .groups); reply = reply; values = x .values; blocks = x .blocks })
 
-  abbrev untouched : Lasting
-  untouched = record { outcome = O.Refused BoardUnusable; groups = tableWith (groupsOf g) g; reply = reply; values = values; blocks = blocks }
+  module _ (us : List Variable) (h : 64 < length us) where
+    abbrev y : Lending
+    y = withVariables us x
 
-  abbrev board : List Variable → Table
-  board us = boardTable us cs fs
+    stops : packet (tableIn y) (placed own multicast) busy (length reply) request (heldIn y) ≡ refuse (heldIn y) BoardUnusable
+    unfolding packet
+    stops = sym (first-stop _ _ _ _ _ _ _ (long-board y h) refl)
 
-  stops : (us : List Variable) → 64 < length us
-      → packet (board us) (placed own multicast) busy (length reply) request (lentState (board us) values blocks g) ≡ refuse (lentState (board us) values blocks g) BoardUnusable
-  unfolding packet
-  stops us h = sym (first-stop _ _ _ _ _ _ _ (long-board us cs fs g values blocks h) refl)
+    long-packet : packetOf y own multicast busy request reply ≡ untouched
+    long-packet = ap (λ z. plainPacketLeftOf (lasting z reply (x .groups))) stops ∙ (λ i. plainPacketLeftOf (record {
+      outcome = O.Refused BoardUnusable;
+      groups = tableWith (groupsOf (x .groups)) (x .groups);
+      reply = reply;
+      values = join-cut (layout (tableIn y) .sizes) (x .values) i;
+      blocks = join-cut (blockSizes (layout (tableIn y) .curves)) (x .blocks) i;
+    }))
 
-  long-packet : (us : List Variable) → 64 < length us → of us ≡ untouched
-  long-packet us h = ap (λ y. lasting y reply g) (stops us h) ∙ (λ i. record {
-    outcome = O.Refused BoardUnusable;
-    groups = tableWith (groupsOf g) g;
-    reply = reply;
-    values = join-cut (layout (board us) .sizes) values i;
-    blocks = join-cut (blockSizes (layout (board us) .curves)) blocks i;
-  })
+  pub packet-same : packetOf (byColumns x) own multicast busy request reply ≡ packetOf x own multicast busy request reply
+  packet-same = columns-same (λ us. packetOf (withVariables us x) own multicast busy request reply) untouched long-packet (x .variables)
 
-pub packet-same : (vs : List Variable) (cs fs : List ℕ) (g : Groups) (own multicast busy : ℕ) (values blocks request reply : List ℕ)
-    → packetOf (recordsOf (takenOf vs)) cs fs g own multicast busy values blocks request reply ≡ packetOf vs cs fs g own multicast busy values blocks request reply
-packet-same vs cs fs g own multicast busy values blocks request reply =
-    taken-same (of cs fs g own multicast busy values blocks request reply) (untouched cs fs g own multicast busy values blocks request reply)
-    (long-packet cs fs g own multicast busy values blocks request reply) vs
-
-pub result-same : (vs : List Variable) (cs fs : List ℕ) (g : Groups) (values blocks : List ℕ) (f : FunctionNumber) (due : Bool) (ran : Ran) (output reply : List ℕ)
-    → resultOf (recordsOf (takenOf vs)) cs fs g values blocks f due ran output reply ≡ resultOf vs cs fs g values blocks f due ran output reply
+pub result-same : (x : Lending) (f : ℕ) (due failed : Bool) (error : ℕ) (output reply : List ℕ) → resultOf (byColumns x) f due failed error output reply ≡ resultOf x f due failed error output reply
 unfolding functionResult
-result-same vs cs fs g values blocks f due ran output reply =
-    taken-same (λ us. resultOf us cs fs g values blocks f due ran output reply) (replied (O.Refused BoardUnusable) reply) long vs
+result-same x f due failed error output reply =
+    columns-same (λ us. resultOf (withVariables us x) f due failed error output reply) refused long (x .variables)
   where
-    long : (us : List Variable) → 64 < length us → resultOf us cs fs g values blocks f due ran output reply ≡ replied (O.Refused BoardUnusable) reply
-    long us h = sym (ap (λ (y : Result). repliedOf (y .ending) reply) (first-stop _ _ _ _ _ _ _ (long-board us cs fs g values blocks h) refl))
+    refused : PlainResultLeft
+    refused = plainResultLeftOf (resultLeft (O.Refused BoardUnusable) reply)
 
-pub store-same : (vs : List Variable) (cs fs : List ℕ) (g : Groups) (values blocks : List ℕ) (n : VariableNumber) (bytes : List ℕ)
-    → storeOf (recordsOf (takenOf vs)) cs fs g values blocks n bytes ≡ storeOf vs cs fs g values blocks n bytes
+    long : (us : List Variable) → 64 < length us → resultOf (withVariables us x) f due failed error output reply ≡ refused
+    long us h = sym (ap (λ (y : Result). plainResultLeftOf (resultLeftOf (y .ending) reply)) (first-stop _ _ _ _ _ _ _ (long-board (withVariables us x) h) refl))
+
+pub store-same : (x : Lending) (i : ℕ) (bytes : List ℕ) → storeOf (byColumns x) i bytes ≡ storeOf x i bytes
 unfolding boardStore
-store-same vs cs fs g values blocks n bytes =
-    taken-same (λ us. storeOf us cs fs g values blocks n bytes) (kept (S.Refused BoardUnusable) values) long vs
+store-same x i bytes = columns-same (λ us. storeOf (withVariables us x) i bytes) (refused (x .values)) long (x .variables)
   where
-    long : (us : List Variable) → 64 < length us → storeOf us cs fs g values blocks n bytes ≡ kept (S.Refused BoardUnusable) values
+    refused : List ℕ → PlainBytesLeft
+    refused values = plainStoreLeftOf (storeLeft (S.Refused BoardUnusable) values)
+
+    long : (us : List Variable) → 64 < length us → storeOf (withVariables us x) i bytes ≡ refused (x .values)
     long us h =
-        sym (ap keptOf (first-stop _ _ _ _ _ _ _ (long-board us cs fs g values blocks h) refl)) ∙ ap (kept (S.Refused BoardUnusable)) (join-cut (layout (boardTable us cs fs) .sizes) values)
+        sym (ap (λ (y : Result). plainStoreLeftOf (storeLeftOf y)) (first-stop _ _ _ _ _ _ _ (long-board (withVariables us x) h) refl))
+        ∙ ap refused (join-cut (layout (tableIn (withVariables us x)) .sizes) (x .values))
 
-reading-same : (signed : Bool) (vs : List Variable) (n : VariableNumber) (bytes : List ℕ) → reading (recordsOf (takenOf vs)) n signed bytes ≡ reading vs n signed bytes
+pub reading-same : (vs : List Variable) (i : ℕ) (signed : Bool) (bytes : List ℕ) → readingOf (recordsOf (columnsOf vs)) i signed bytes ≡ readingOf vs i signed bytes
 unfolding reading
-reading-same signed vs n bytes = taken-same (λ us. reading us n signed bytes) (Reading.refused BoardUnusable) long vs
+reading-same vs i signed bytes = columns-same (λ us. readingOf us i signed bytes) (plainReadingOf (Reading.refused BoardUnusable)) long vs
   where
-    long : (us : List Variable) → 64 < length us → reading us n signed bytes ≡ Reading.refused BoardUnusable
-    long us h = sym (first-stop _ _ _ _ _ _ _ (long-variables us h) refl)
+    long : (us : List Variable) → 64 < length us → readingOf us i signed bytes ≡ plainReadingOf (Reading.refused BoardUnusable)
+    long us h = sym (ap plainReadingOf (first-stop _ _ _ _ _ _ _ (long-variables us h) refl))
 
-writing-same : (signed : Bool) (vs : List Variable) (n : VariableNumber) (z : ℤ) (room : ℕ) → writing (recordsOf (takenOf vs)) n signed z room ≡ writing vs n signed z room
+pub writing-same : (vs : List Variable) (i : ℕ) (signed : Bool) (z : ℤ) (buffer : List ℕ) → writingOf (recordsOf (columnsOf vs)) i signed z buffer ≡ writingOf vs i signed z buffer
 unfolding writing
-writing-same signed vs n z room = taken-same (λ us. writing us n signed z room) (Written.refused BoardUnusable) long vs
+writing-same vs i signed z buffer = columns-same (λ us. writingOf us i signed z buffer) (left (Written.refused BoardUnusable)) long vs
   where
-    long : (us : List Variable) → 64 < length us → writing us n signed z room ≡ Written.refused BoardUnusable
-    long us h = sym (first-stop _ _ _ _ _ _ _ (long-variables us h) refl)
+    left : Written → PlainBytesLeft
+    left w = plainWritingLeftOf (writingLeftOf w buffer)
 
-pub signed-same : (vs : List Variable) (n : VariableNumber) (bytes : List ℕ) → signedOf (recordsOf (takenOf vs)) n bytes ≡ signedOf vs n bytes
-signed-same vs n bytes = reading-same true vs n bytes
-
-pub unsigned-same : (vs : List Variable) (n : VariableNumber) (bytes : List ℕ) → unsignedOf (recordsOf (takenOf vs)) n bytes ≡ unsignedOf vs n bytes
-unsigned-same vs n bytes = reading-same false vs n bytes
-
-pub signed-bytes-same : (vs : List Variable) (n : VariableNumber) (z : ℤ) (buffer : List ℕ) → signedBytesOf (recordsOf (takenOf vs)) n z buffer ≡ signedBytesOf vs n z buffer
-signed-bytes-same vs n z buffer = ap (λ w. writes w buffer) (writing-same true vs n z (length buffer))
-
-pub unsigned-bytes-same : (vs : List Variable) (n : VariableNumber) (m : ℕ) (buffer : List ℕ) → unsignedBytesOf (recordsOf (takenOf vs)) n m buffer ≡ unsignedBytesOf vs n m buffer
-unsigned-bytes-same vs n m buffer = ap (λ w. writes w buffer) (writing-same false vs n (pos m) (length buffer))
+    long : (us : List Variable) → 64 < length us → writingOf us i signed z buffer ≡ left (Written.refused BoardUnusable)
+    long us h = sym (ap left (first-stop _ _ _ _ _ _ _ (long-variables us h) refl))

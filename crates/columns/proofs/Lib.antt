@@ -1,3 +1,3 @@
-pub mod Taken
+pub mod Columns
 pub mod Walk
 pub mod Byte

@@ -21,10 +21,10 @@ abbrev pub withRecord : Records → ℕ → Variable → Records
 withRecord r i v = record { count = r .count; writable = set (r .writable) i (v .writable); sizes = set (r .sizes) i (v .size); kinds = set (r .kinds) i (v .kind) }
 
 -- all counted, and the first k stored
-unfoldable pub takenTo : List Variable → ℕ → Records
-takenTo vs zero = countedOf (length vs)
-takenTo vs (suc k) = withRecord (takenTo vs k) k (variableAt vs k)
+unfoldable pub columnsTo : List Variable → ℕ → Records
+columnsTo vs zero = countedOf (length vs)
+columnsTo vs (suc k) = withRecord (columnsTo vs k) k (variableAt vs k)
 
 -- all counted, and as many stored as the columns have places for
-abbrev pub takenOf : List Variable → Records
-takenOf vs = takenTo vs (min (length vs) 64)
+abbrev pub columnsOf : List Variable → Records
+columnsOf vs = columnsTo vs (min (length vs) 64)

@@ -3,7 +3,7 @@ use bsmp::Variable;
 use records::Records;
 ghost use mathlib.Core.Path.{_≡_};
 ghost use Prim.Native.Nat.{min};
-ghost use Rattle.taken.specs.Taken.{takenOf};
+ghost use Rattle.columns.specs.Columns.{columnsOf};
 
 // How many of so many records have a place in the columns.
 fn stored(count: usize) -> usize
@@ -16,8 +16,8 @@ fn stored(count: usize) -> usize
 }
 
 // The lent records by columns, in one walk that stores into them in place. More than 64 are counted, and so refused by the work.
-pub fn records_of(variables: &[Variable]) -> Records
-    ensures { λ r. ⌜ r ≡ takenOf (now (variables .entry)) ⌝ }
+pub fn columns_of(variables: &[Variable]) -> Records
+    ensures { λ r. ⌜ r ≡ columnsOf (now (variables .entry)) ⌝ }
 {
     let mut writable = [0u8; 64];
     let mut sizes = [0u8; 64];

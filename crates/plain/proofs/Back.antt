@@ -1,9 +1,9 @@
--- Uniqueness: any two numbers that a promise allows are equal; and what is told loses nothing of the outcome. Assumes nothing.
+-- From plain numbers back to the outcome: they lose nothing of it. Assumes nothing.
 use mathlib.Core.Path.{_≡_, refl, sym, ap, _∙_}
 use mathlib.Core.Bool.{cond}
 use Prim.Native.Nat.{ℕ}
+use native.Mathlib.Omega.{arith}
 use lib.Dec.{eqb}
-use lib.IntN.{ℤ, pos, negsuc}
 use Rattle.bsmp.specs.Board.{function}
 use Rattle.bsmp.specs.declared.Outcome.{Outcome}
 use Rattle.bsmp.specs.declared.Outcome.the-variants as O
@@ -11,22 +11,9 @@ use Rattle.bsmp.specs.declared.Refusal.{Refusal}
 use Rattle.bsmp.specs.declared.Refusal.the-variants.{BoardUnusable, BadAddress, ReplyBufferShort, PacketLength, Checksum, NotForThisBoard}
 use Rattle.bsmp.specs.declared.Refusal.the-variants.{NoSuchFunction, OutputLength, NoSuchVariable, WrongByteCount, WrongKind, DoesNotFit}
 use Rattle.bsmp.specs.Codes.{refusalNumber}
-use Rattle.told.specs.Told.{toldOf, Numbers, signedSays, unsignedSays}
-use Rattle.told.specs.declared.Told.{Told}
-use Rattle.told.specs.declared.ToldSigned.{ToldSigned}
-use Rattle.told.specs.declared.ToldUnsigned.{ToldUnsigned}
+use Rattle.plain.specs.Numbers.{plainOutcomeOf}
+use Rattle.plain.specs.declared.PlainOutcome.{PlainOutcome}
 
-pub read-signed-unique : (x : Numbers) (a b : ToldSigned) → signedSays a ≡ x → signedSays b ≡ x → a ≡ b
-read-signed-unique x a b h k = ap (λ (y : Numbers). record { refusal = y .refusal; number = y .number }) (h ∙ sym k)
-
-abbrev magnitude : ℤ → ℕ
-magnitude (pos n) = n
-magnitude (negsuc n) = 0
-
-pub read-unsigned-unique : (x : Numbers) (a b : ToldUnsigned) → unsignedSays a ≡ x → unsignedSays b ≡ x → a ≡ b
-read-unsigned-unique x a b h k = ap (λ (y : Numbers). record { refusal = y .refusal; number = magnitude (y .number) }) (h ∙ sym k)
-
--- from the numbers back to the outcome
 abbrev refusalOf : ℕ → Refusal
 refusalOf n =
     cond (eqb n 1) BoardUnusable (cond (eqb n 2) BadAddress (cond (eqb n 3) ReplyBufferShort (cond (eqb n 4) PacketLength (cond (eqb n 5) Checksum (cond (eqb n 6) NotForThisBoard
@@ -46,14 +33,22 @@ refusal-back WrongByteCount = refl
 refusal-back WrongKind = refl
 refusal-back DoesNotFit = refl
 
-abbrev outcomeFrom : Told → Outcome
-outcomeFrom t = cond (eqb (t .kind) 0) (O.Reply (t .length)) (cond (eqb (t .kind) 1) O.Silence (cond (eqb (t .kind) 2) (O.Run (function (t .function)) (t .length) (t .due)) (O.Refused (refusalOf (t .refusal)))))
+-- no refusal has the number 0
+pub refusal-some : (r : Refusal) → refusalNumber r ≡ 0 → ⊥
+refusal-some r h =
+    let e : DoesNotFit ≡ r = ap refusalOf (sym h) ∙ refusal-back r in
+    omega (arith, h, ap refusalNumber e)
 
-outcome-back : (o : Outcome) → outcomeFrom (toldOf o) ≡ o
+abbrev outcomeFrom : PlainOutcome → Outcome
+outcomeFrom p =
+    cond (eqb (p .kind) 0) (O.Reply (p .length)) (cond (eqb (p .kind) 1) O.Silence
+    (cond (eqb (p .kind) 2) (O.Run (function (p .function)) (p .length) (p .due)) (O.Refused (refusalOf (p .refusal)))))
+
+outcome-back : (o : Outcome) → outcomeFrom (plainOutcomeOf o) ≡ o
 outcome-back (O.Reply n) = refl
 outcome-back O.Silence = refl
 outcome-back (O.Run f n due) = refl
 outcome-back (O.Refused r) = ap O.Refused (refusal-back r)
 
-pub tells-all : (o o′ : Outcome) → toldOf o ≡ toldOf o′ → o ≡ o′
-tells-all o o′ e = sym (outcome-back o) ∙ ap outcomeFrom e ∙ outcome-back o′
+pub plain-says-all : (o o′ : Outcome) → plainOutcomeOf o ≡ plainOutcomeOf o′ → o ≡ o′
+plain-says-all o o′ e = sym (outcome-back o) ∙ ap outcomeFrom e ∙ outcome-back o′

@@ -1,17 +1,29 @@
--- What a board lends to an entry, as the definition's table, and what an entry hands back. Assumes nothing.
+-- All that is lent to a call on a whole board, and what the definition sees in it. Assumes nothing.
 use mathlib.Core.List.{List}
 use Prim.Native.Nat.{ℕ}
-use Rattle.bsmp.specs.Board.{Table}
+use Rattle.bsmp.specs.Board.{Table, layout, State}
+use Rattle.bsmp.specs.Store.{Lent, held}
 use Rattle.bsmp.specs.declared.Variable.{Variable}
-use Rattle.bsmp.specs.declared.Outcome.{Outcome}
-use Rattle.records.specs.Lending.{curvesOf, functionsOf}
+use Rattle.records.specs.Lending.{curvesOf, functionsOf, groupsOf, lent}
 use Rattle.records.specs.declared.Groups.{Groups}
-use Rattle.node.specs.declared.Done.{Done}
 
--- the lent variable records themselves, however many, with the curves and functions that the flat slices say
-abbrev pub boardTable : List Variable → (curves functions : List ℕ) → Table
-boardTable vs cs fs = record { variables = vs; curves = curvesOf cs; functions = functionsOf fs }
+-- the variable records themselves, however many; curves and functions as flat numbers; the group table and both stores
+pub record Lending : Type 0 where
+  pub variables : List Variable
+  pub curves : List ℕ
+  pub functions : List ℕ
+  pub groups : Groups
+  pub values : List ℕ
+  pub blocks : List ℕ
 
--- the outcome, and the group table as it is last
-abbrev pub doneWith : Outcome → Groups → Done
-doneWith o g = record { outcome = o; groups = g }
+abbrev pub lending : List Variable → (curves functions : List ℕ) → Groups → (values blocks : List ℕ) → Lending
+lending vs cs fs g values blocks = record { variables = vs; curves = cs; functions = fs; groups = g; values = values; blocks = blocks }
+
+abbrev pub tableIn : Lending → Table
+tableIn x = record { variables = x .variables; curves = curvesOf (x .curves); functions = functionsOf (x .functions) }
+
+abbrev pub lentIn : Lending → Lent
+lentIn x = lent (x .values) (x .blocks) (groupsOf (x .groups))
+
+abbrev pub heldIn : Lending → State
+heldIn x = held (layout (tableIn x)) (lentIn x)

@@ -1,4 +1,4 @@
--- How an ending is told to C, in numbers: 01's number of a refusal, 0 where nothing is refused. Assumes nothing.
+-- How an ending is said in plain numbers: 01's number of a refusal, 0 where nothing is refused. Assumes nothing.
 use mathlib.Core.Bool.{Bool, true, false}
 use Prim.Native.Nat.{ℕ}
 use lib.IntN.{ℤ, pos}
@@ -12,18 +12,18 @@ use Rattle.results.specs.declared.Stored.{Stored}
 use Rattle.results.specs.declared.Stored.the-variants as S
 use Rattle.readings.specs.declared.Writing.{Writing}
 use Rattle.readings.specs.declared.Writing.the-variants as W
-use Rattle.told.specs.declared.Told.{Told}
-use Rattle.told.specs.declared.ToldSigned.{ToldSigned}
-use Rattle.told.specs.declared.ToldUnsigned.{ToldUnsigned}
+use Rattle.plain.specs.declared.PlainOutcome.{PlainOutcome}
+use Rattle.plain.specs.declared.PlainSignedReading.{PlainSignedReading}
+use Rattle.plain.specs.declared.PlainUnsignedReading.{PlainUnsignedReading}
 
 -- a call's outcome; a function's input stands at place 5 of the packet (law `Input.input-at-5`)
-abbrev pub toldOf : Outcome → Told
-toldOf (O.Reply n) = record { kind = 0; refusal = 0; due = false; function = 0; input = 0; length = n }
-toldOf O.Silence = record { kind = 1; refusal = 0; due = false; function = 0; input = 0; length = 0 }
-toldOf (O.Run f n due) = record { kind = 2; refusal = 0; due = due; function = f .0; input = 5; length = n }
-toldOf (O.Refused r) = record { kind = 3; refusal = refusalNumber r; due = false; function = 0; input = 0; length = 0 }
+abbrev pub plainOutcomeOf : Outcome → PlainOutcome
+plainOutcomeOf (O.Reply n) = record { kind = 0; refusal = 0; due = false; function = 0; input = 0; length = n }
+plainOutcomeOf O.Silence = record { kind = 1; refusal = 0; due = false; function = 0; input = 0; length = 0 }
+plainOutcomeOf (O.Run f n due) = record { kind = 2; refusal = 0; due = due; function = f .0; input = 5; length = n }
+plainOutcomeOf (O.Refused r) = record { kind = 3; refusal = refusalNumber r; due = false; function = 0; input = 0; length = 0 }
 
--- from C: an error byte counts only where the function failed
+-- how a function ran: an error byte counts only where it failed
 abbrev pub ranFrom : (failed : Bool) → (error : ℕ) → Ran
 ranFrom true error = Failed error
 ranFrom false error = Gave
@@ -38,19 +38,19 @@ writingNumber W.Done = 0
 writingNumber (W.Refused r) = refusalNumber r
 
 -- bytes to number: 0 and the number, or the refusal's number and 0
-pub record Numbers : Type 0 where
+pub record PlainReading : Type 0 where
   pub refusal : ℕ
   pub number : ℤ
 
-abbrev pub numbers : ℕ → ℤ → Numbers
-numbers n z = record { refusal = n; number = z }
+abbrev pub plainReading : ℕ → ℤ → PlainReading
+plainReading n z = record { refusal = n; number = z }
 
-abbrev pub readingTold : Reading → Numbers
-readingTold (is z) = numbers 0 z
-readingTold (Reading.refused r) = numbers (refusalNumber r) (pos 0)
+abbrev pub plainReadingOf : Reading → PlainReading
+plainReadingOf (is z) = plainReading 0 z
+plainReadingOf (Reading.refused r) = plainReading (refusalNumber r) (pos 0)
 
-abbrev pub signedSays : ToldSigned → Numbers
-signedSays r = numbers (r .refusal) (r .number)
+abbrev pub signedSays : PlainSignedReading → PlainReading
+signedSays r = plainReading (r .refusal) (r .number)
 
-abbrev pub unsignedSays : ToldUnsigned → Numbers
-unsignedSays r = numbers (r .refusal) (pos (r .number))
+abbrev pub unsignedSays : PlainUnsignedReading → PlainReading
+unsignedSays r = plainReading (r .refusal) (pos (r .number))

@@ -1,5 +1,5 @@
--- `records_of` meets its contract: a walk of its MIR, by hand. Each turn of the loop looks into the slice for one record, shuts it, and stores the record's bytes into the columns in place.
--- The loop's invariant: the columns are those of all counted and the first i stored, `takenTo ys i`.
+-- `columns_of` meets its contract: a walk of its MIR, by hand. Each turn of the loop looks into the slice for one record, shuts it, and stores the record's bytes into the columns in place.
+-- The loop's invariant: the columns are those of all counted and the first i stored, `columnsTo ys i`.
 -- Assumes nothing.
 use mathlib.Core.Path.{_≡_, refl, sym, _∙_, ap, subst}
 use Prim.Native.Nat.{ℕ, min, _+_, _-_, _*_, _≤_, _<_, _^_, zero-le}
@@ -49,25 +49,25 @@ use denote.Triple.Spec.{Meets, tripleOf}
 use denote.Triple.Table.{entered, cited}
 use denote.Triple.Walked.{says, Stays, stay-none-slice, walkOf, goes-none-slice, Walks, ends-at, walked, walk-meets}
 use denote.Exit.{yes}
-use Rattle.taken.specs.Taken.{blankVariable, withRecord, countedOf, takenTo, takenOf}
+use Rattle.columns.specs.Columns.{blankVariable, withRecord, countedOf, columnsTo, columnsOf}
 use Rattle.bsmp.specs.declared.Variable.{Variable}
 use Rattle.records.specs.declared.Records.{Records}
 use Rattle.bsmp.proofs.Variable as R
 use Rattle.bsmp.proofs.Variable.Laws as R′
 use Rattle.records.proofs.Records as T
 use Rattle.records.proofs.Records.Laws as T′
-use Rattle.taken.proofs.Walk.{down, span}
-use Rattle.taken.proofs.Byte.{byte, set-map, bytes-set, bytes-repeat}
-use Rattle.taken.proofs.Taken.{taken-count}
-use Rattle.taken.proofs.stored as few
-use Rattle.taken.proofs.stored.Symbol as few-def
-use Rattle.taken.proofs.stored.Symbol.{name as #taken·stored}
-use Rattle.taken.proofs.stored.Met as few-thm
-use Rattle.taken.proofs.records_of.Key.{name as #taken·records-of}
-use Rattle.taken.proofs.records_of as f
-use Rattle.taken.proofs.records_of.Statement as stated
-use Rattle.taken.proofs.records_of.Code as code
-use Rattle.taken.proofs.records_of.Code.Mir as text
+use Rattle.columns.proofs.Walk.{down, span}
+use Rattle.columns.proofs.Byte.{byte, set-map, bytes-set, bytes-repeat}
+use Rattle.columns.proofs.Columns.{columns-count}
+use Rattle.columns.proofs.stored as few
+use Rattle.columns.proofs.stored.Symbol as few-def
+use Rattle.columns.proofs.stored.Symbol.{name as #columns·stored}
+use Rattle.columns.proofs.stored.Met as few-thm
+use Rattle.columns.proofs.columns_of.Key.{name as #columns·columns-of}
+use Rattle.columns.proofs.columns_of as f
+use Rattle.columns.proofs.columns_of.Statement as stated
+use Rattle.columns.proofs.columns_of.Code as code
+use Rattle.columns.proofs.columns_of.Code.Mir as text
 
 abbrev stayed : Stays (f.ended .signature .params) (f.ended .kept)
 stayed = (stay-none-slice (0 ∷ []) tt (plain (λ _. R.the-row)) yes, tt)
@@ -177,11 +177,11 @@ module _ {M : Type 1} (𝓤 : URA M) (H : Heap 𝓤) (A : Atoms 𝓤) (W : Given
   abbrev Own : Fml
   Own = ShrSlice (named 0) κ R.the-row .own s (v ∷ [])
 
-  exits : IsT (takenOf ys) → ent 𝓤 (⋆ 𝓤 H A (‵ (flft κ q) ∷ ‵ Own ∷ [])) (Post (machT (takenOf ys)))
+  exits : IsT (columnsOf ys) → ent 𝓤 (⋆ 𝓤 H A (‵ (flft κ q) ∷ ‵ Own ∷ [])) (Post (machT (columnsOf ys)))
   exits g =
       qed W (‵ (flft κ q) ∷ ‵ Own ∷ []) ∵
-      suffices ! _ (ends-at 𝓤 H A f.ended stayed (f.clauses 𝓤 H A mem run) W bound (machT (takenOf ys)) (takenOf ys) (tt, tt) (tt, tt)) $ says ! refl $
-      nothing ! $ move ! (1 ∷ 0 ∷ []) $ join ! $ frame ! $ nothing ! $ move ! (1 ∷ 0 ∷ []) $ fjoin ! $ frame ! $ owned ! T.the-row (Is T.the-row) (LL.makes T.the-type T′.the-plain 𝓤 H A) (takenOf ys) _ g $ done !
+      suffices ! _ (ends-at 𝓤 H A f.ended stayed (f.clauses 𝓤 H A mem run) W bound (machT (columnsOf ys)) (columnsOf ys) (tt, tt) (tt, tt)) $ says ! refl $
+      nothing ! $ move ! (1 ∷ 0 ∷ []) $ join ! $ frame ! $ nothing ! $ move ! (1 ∷ 0 ∷ []) $ fjoin ! $ frame ! $ owned ! T.the-row (Is T.the-row) (LL.makes T.the-type T′.the-plain 𝓤 H A) (columnsOf ys) _ g $ done !
 
   abbrev to-few : Few 𝓤 H A mem run .Ghost
   to-few = ((tt, tt, tt, (n, tt), (vint w64 n ∷ [], tt)), tt)
@@ -191,7 +191,7 @@ module _ {M : Type 1} (𝓤 : URA M) (H : Heap 𝓤) (A : Atoms 𝓤) (W : Given
 
   -- ---- the loop: i records are stored
   abbrev Upto : Type 0
-  Upto = (i : ℕ) × ((i ≤ m) × IsT (takenTo ys i))
+  Upto = (i : ℕ) × ((i ≤ m) × IsT (columnsTo ys i))
 
   abbrev Nearer : Upto → Upto → Type 0
   Nearer j i = m - j .0 < m - i .0
@@ -200,19 +200,19 @@ module _ {M : Type 1} (𝓤 : URA M) (H : Heap 𝓤) (A : Atoms 𝓤) (W : Given
   Nearer-wf = InvImage·wf (λ (i : Upto). m - i .0) (Nat·lt-wfRel .wf)
 
   -- columns of zeros: the table with none stored
-  none : countedOf n ≡ takenTo ys 0
-  unfolding takenTo
+  none : countedOf n ≡ columnsTo ys 0
+  unfolding columnsTo
   none = refl
 
-  is-none : IsT (takenTo ys 0)
+  is-none : IsT (columnsTo ys 0)
   is-none = subst IsT none (is-counted n (room .0))
 
   -- one record more
-  one-more : (i : ℕ) → withRecord (takenTo ys i) i (elem i) ≡ takenTo ys (i + 1)
-  unfolding takenTo
-  one-more i = ap (takenTo ys) (sym (add-one i))
+  one-more : (i : ℕ) → withRecord (columnsTo ys i) i (elem i) ≡ columnsTo ys (i + 1)
+  unfolding columnsTo
+  one-more i = ap (columnsTo ys) (sym (add-one i))
 
-  module _ (𝓣 : Tables 𝓤 H) (fm : FmC 𝓤 H (W .laws) (𝓣 .C)) (known-few : Triple 𝓤 (𝓣 .C #taken·stored) (Few 𝓤 H A mem run)) where
+  module _ (𝓣 : Tables 𝓤 H) (fm : FmC 𝓤 H (W .laws) (𝓣 .C)) (known-few : Triple 𝓤 (𝓣 .C #columns·stored) (Few 𝓤 H A mem run)) where
     abbrev C : Calls 𝓤 H
     C = 𝓣 .C
 
@@ -239,8 +239,8 @@ module _ {M : Type 1} (𝓤 : URA M) (H : Heap 𝓤) (A : Atoms 𝓤) (W : Given
 
       -- the locals, local k at 2 · k; then the token, the fractured borrow, res, the slice's fact
       abbrev At : Upto → List (Item 𝓤)
-      At i = ‵ (froom T′.mir l₀ 0) ∷ ‵ (fdies T′.mir l₀) ∷ ‵ (fat fullShare slice l₁ 0 v) ∷ ‵ (fdies slice l₁) ∷ ‵ (fat fullShare column l₂ 0 (columnVal (takenTo ys (i .0) .writable)))
-          ∷ ‵ (fdies column l₂) ∷ ‵ (fat fullShare column l₃ 0 (columnVal (takenTo ys (i .0) .sizes))) ∷ ‵ (fdies column l₃) ∷ ‵ (fat fullShare column l₄ 0 (columnVal (takenTo ys (i .0) .kinds)))
+      At i = ‵ (froom T′.mir l₀ 0) ∷ ‵ (fdies T′.mir l₀) ∷ ‵ (fat fullShare slice l₁ 0 v) ∷ ‵ (fdies slice l₁) ∷ ‵ (fat fullShare column l₂ 0 (columnVal (columnsTo ys (i .0) .writable)))
+          ∷ ‵ (fdies column l₂) ∷ ‵ (fat fullShare column l₃ 0 (columnVal (columnsTo ys (i .0) .sizes))) ∷ ‵ (fdies column l₃) ∷ ‵ (fat fullShare column l₄ 0 (columnVal (columnsTo ys (i .0) .kinds)))
           ∷ ‵ (fdies column l₄) ∷ ‵ (fat fullShare word l₅ 0 (vint w64 m)) ∷ ‵ (fdies word l₅) ∷ ‵ (fat fullShare word l₆ 0 (vint w64 (i .0))) ∷ ‵ (fdies word l₆) ∷ ‵ (froom R′.mir l₇ 0)
           ∷ ‵ (fdies R′.mir l₇) ∷ ‵ (froom word l₈ 0) ∷ ‵ (fdies word l₈) ∷ ‵ (froom tyBool l₉ 0) ∷ ‵ (fdies tyBool l₉) ∷ ‵ (froom word l₁₀ 0) ∷ ‵ (fdies word l₁₀) ∷ ‵ (froom tyPtr l₁₁ 0)
           ∷ ‵ (fdies tyPtr l₁₁) ∷ ‵ (froom R′.mir l₁₂ 0) ∷ ‵ (fdies R′.mir l₁₂) ∷ ‵ (froom tyPtr l₁₃ 0) ∷ ‵ (fdies tyPtr l₁₃) ∷ ‵ (froom tyPtr l₁₄ 0) ∷ ‵ (fdies tyPtr l₁₄) ∷ ‵ (froom tyPtr l₁₅ 0)
@@ -273,36 +273,36 @@ module _ {M : Type 1} (𝓤 : URA M) (H : Heap 𝓤) (A : Atoms 𝓤) (W : Given
           assigns ! (addr ! (from ! (stop !))) (from ! (stop !)) (init ! 26 refl (tt, tt)) $
           assigns ! (bin ! (load ! (from ! (stop !)) (look ! 26 refl)) (load ! (from ! (stop !)) (look ! 12 refl)) tt) (from ! (stop !)) (init ! 28 refl (tt, tt)) $
           assigns ! (of-opd ! (load ! (from ! (fld ! refl (stop !))) (look-in ! 14 (sub ! 0 refl (whole !))))) (from ! (hop ! (look ! 28 refl) (stop !)))
-          (store-in ! 4 (byte ! (i .0) (bytes (takenTo ys (i .0) .writable)) (within less (long .0)) (long .0) (whole !)) (tt, record { fits = numbers (elem (i .0)) g .0 })) $
-          rewrite ! 4 (λ (w : Val). ‵ (fat fullShare column l₂ 0 w)) (stored-val (takenTo ys (i .0) .writable) (i .0) _ ∙ ap (λ (t : Records). columnVal (t .writable)) (one-more (i .0))) refl $
+          (store-in ! 4 (byte ! (i .0) (bytes (columnsTo ys (i .0) .writable)) (within less (long .0)) (long .0) (whole !)) (tt, record { fits = numbers (elem (i .0)) g .0 })) $
+          rewrite ! 4 (λ (w : Val). ‵ (fat fullShare column l₂ 0 w)) (stored-val (columnsTo ys (i .0) .writable) (i .0) _ ∙ ap (λ (t : Records). columnVal (t .writable)) (one-more (i .0))) refl $
           assigns ! (addr ! (from ! (stop !))) (from ! (stop !)) (init ! 30 refl (tt, tt)) $
           assigns ! (bin ! (load ! (from ! (stop !)) (look ! 30 refl)) (load ! (from ! (stop !)) (look ! 12 refl)) tt) (from ! (stop !)) (init ! 32 refl (tt, tt)) $
           assigns ! (of-opd ! (load ! (from ! (fld ! refl (stop !))) (look-in ! 14 (sub ! 1 refl (whole !))))) (from ! (hop ! (look ! 32 refl) (stop !)))
-          (store-in ! 6 (byte ! (i .0) (bytes (takenTo ys (i .0) .sizes)) (within less (long .1 .0)) (long .1 .0) (whole !)) (tt, record { fits = numbers (elem (i .0)) g .1 .0 })) $
-          rewrite ! 6 (λ (w : Val). ‵ (fat fullShare column l₃ 0 w)) (stored-val (takenTo ys (i .0) .sizes) (i .0) _ ∙ ap (λ (t : Records). columnVal (t .sizes)) (one-more (i .0))) refl $
+          (store-in ! 6 (byte ! (i .0) (bytes (columnsTo ys (i .0) .sizes)) (within less (long .1 .0)) (long .1 .0) (whole !)) (tt, record { fits = numbers (elem (i .0)) g .1 .0 })) $
+          rewrite ! 6 (λ (w : Val). ‵ (fat fullShare column l₃ 0 w)) (stored-val (columnsTo ys (i .0) .sizes) (i .0) _ ∙ ap (λ (t : Records). columnVal (t .sizes)) (one-more (i .0))) refl $
           assigns ! (addr ! (from ! (stop !))) (from ! (stop !)) (init ! 34 refl (tt, tt)) $
           assigns ! (bin ! (load ! (from ! (stop !)) (look ! 34 refl)) (load ! (from ! (stop !)) (look ! 12 refl)) tt) (from ! (stop !)) (init ! 36 refl (tt, tt)) $
           assigns ! (of-opd ! (load ! (from ! (fld ! refl (stop !))) (look-in ! 14 (sub ! 2 refl (whole !))))) (from ! (hop ! (look ! 36 refl) (stop !)))
-          (store-in ! 8 (byte ! (i .0) (bytes (takenTo ys (i .0) .kinds)) (within less (long .1 .1)) (long .1 .1) (whole !)) (tt, record { fits = numbers (elem (i .0)) g .1 .1 })) $
-          rewrite ! 8 (λ (w : Val). ‵ (fat fullShare column l₄ 0 w)) (stored-val (takenTo ys (i .0) .kinds) (i .0) _ ∙ ap (λ (t : Records). columnVal (t .kinds)) (one-more (i .0))) refl $
+          (store-in ! 8 (byte ! (i .0) (bytes (columnsTo ys (i .0) .kinds)) (within less (long .1 .1)) (long .1 .1) (whole !)) (tt, record { fits = numbers (elem (i .0)) g .1 .1 })) $
+          rewrite ! 8 (λ (w : Val). ‵ (fat fullShare column l₄ 0 w)) (stored-val (columnsTo ys (i .0) .kinds) (i .0) _ ∙ ap (λ (t : Records). columnVal (t .kinds)) (one-more (i .0))) refl $
           assigns-last ! (bin ! (load ! (from ! (stop !)) (look ! 12 refl)) (lit ! tt) (record { fits = fits less })) (from ! (stop !)) (store ! 12 refl (tt, record { fits = fits less })) $
           forget ! 14 refl $ forget ! 18 refl $ forget ! 20 refl $ forget ! 22 refl $ forget ! 24 refl $ forget ! 26 refl $ forget ! 28 refl $ forget ! 30 refl $ forget ! 32 refl $ forget ! 34 refl $ forget ! 36 refl $
-          again ! Nearer At i (i .0 + 1, (add-one-le (ltb→lt (i .0) m less), subst IsT (one-more (i .0)) (is-with (takenTo ys (i .0)) (i .0) (elem (i .0)) (i .1 .1) g))) (add-one-dec m (i .0) (ltb→lt (i .0) m less)))))
-          (λ over. jumps ! $ rewrite ! 4 (λ (k : ℕ). ‵ (fat fullShare column l₂ 0 (columnVal (takenTo ys k .writable)))) (all over) refl $ rewrite ! 6 (λ (k : ℕ). ‵ (fat fullShare column l₃ 0 (columnVal (takenTo ys k .sizes)))) (all over) refl $ rewrite ! 8 (λ (k : ℕ). ‵ (fat fullShare column l₄ 0 (columnVal (takenTo ys k .kinds)))) (all over) refl $
+          again ! Nearer At i (i .0 + 1, (add-one-le (ltb→lt (i .0) m less), subst IsT (one-more (i .0)) (is-with (columnsTo ys (i .0)) (i .0) (elem (i .0)) (i .1 .1) g))) (add-one-dec m (i .0) (ltb→lt (i .0) m less)))))
+          (λ over. jumps ! $ rewrite ! 4 (λ (k : ℕ). ‵ (fat fullShare column l₂ 0 (columnVal (columnsTo ys k .writable)))) (all over) refl $ rewrite ! 6 (λ (k : ℕ). ‵ (fat fullShare column l₃ 0 (columnVal (columnsTo ys k .sizes)))) (all over) refl $ rewrite ! 8 (λ (k : ℕ). ‵ (fat fullShare column l₄ 0 (columnVal (columnsTo ys k .kinds)))) (all over) refl $
           exec ! C Λ En text.t-8 (atRet En Post) $
           assigns ! (of-opd ! (load ! (from ! (fld ! refl (stop !))) (look-in ! 2 (sub ! 1 refl (whole !))))) (from ! (stop !)) (init ! 16 refl (tt, record { fits = room .0 })) $
-          assigns ! (of-opd ! (load ! (from ! (stop !)) (look ! 4 refl))) (from ! (stop !)) (init ! 38 refl (typed-column (takenOf ys .writable) (ended over .0))) $
-          assigns ! (of-opd ! (load ! (from ! (stop !)) (look ! 6 refl))) (from ! (stop !)) (init ! 40 refl (typed-column (takenOf ys .sizes) (ended over .1 .0))) $
-          assigns ! (of-opd ! (load ! (from ! (stop !)) (look ! 8 refl))) (from ! (stop !)) (init ! 42 refl (typed-column (takenOf ys .kinds) (ended over .1 .1))) $
+          assigns ! (of-opd ! (load ! (from ! (stop !)) (look ! 4 refl))) (from ! (stop !)) (init ! 38 refl (typed-column (columnsOf ys .writable) (ended over .0))) $
+          assigns ! (of-opd ! (load ! (from ! (stop !)) (look ! 6 refl))) (from ! (stop !)) (init ! 40 refl (typed-column (columnsOf ys .sizes) (ended over .1 .0))) $
+          assigns ! (of-opd ! (load ! (from ! (stop !)) (look ! 8 refl))) (from ! (stop !)) (init ! 42 refl (typed-column (columnsOf ys .kinds) (ended over .1 .1))) $
           -- as many are counted as are lent
-          rewrite ! 16 (λ (k : ℕ). ‵ (fat fullShare word l₈ 0 (vint w64 k))) (sym (taken-count ys)) refl $
-          assigns ! (agg ! (and-then ! (load ! (from ! (stop !)) (look ! 16 refl)) (and-then ! (load ! (from ! (stop !)) (look ! 38 refl)) (and-then ! (load ! (from ! (stop !)) (look ! 40 refl)) (and-then ! (load ! (from ! (stop !)) (look ! 42 refl)) (no-more !)))))) (from ! (stop !)) (init ! 0 refl (LL.lawful T.the-type T′.the-laws 𝓤 H A W .typed (takenOf ys) _ (full over) .0)) $
+          rewrite ! 16 (λ (k : ℕ). ‵ (fat fullShare word l₈ 0 (vint w64 k))) (sym (columns-count ys)) refl $
+          assigns ! (agg ! (and-then ! (load ! (from ! (stop !)) (look ! 16 refl)) (and-then ! (load ! (from ! (stop !)) (look ! 38 refl)) (and-then ! (load ! (from ! (stop !)) (look ! 40 refl)) (and-then ! (load ! (from ! (stop !)) (look ! 42 refl)) (no-more !)))))) (from ! (stop !)) (init ! 0 refl (LL.lawful T.the-type T′.the-laws 𝓤 H A W .typed (columnsOf ys) _ (full over) .0)) $
           returns ! (look ! 0 refl) $ forget ! 0 refl $ forget ! 2 refl $ forget ! 4 refl $ forget ! 6 refl $ forget ! 8 refl $ forget ! 10 refl $ forget ! 12 refl $ forget ! 16 refl $ forget ! 18 refl $ forget ! 38 refl $ forget ! 40 refl $ forget ! 42 refl $
           free1 ! $ free1 ! $ free1 ! $ free1 ! $ free1 ! $ free1 ! $ free1 ! $ free1 ! $ free1 ! $ free1 ! $ free1 ! $ free1 ! $ free1 ! $ free1 ! $ free1 ! $ free1 ! $ free1 ! $ free1 ! $ free1 ! $ free1 ! $ free1 ! $ free1 ! $ free0 ! $
           move ! (2 ∷ 1 ∷ []) $ fjoin ! $ move ! (2 ∷ 0 ∷ []) $ fjoin ! $ move ! (1 ∷ 0 ∷ []) $ by ! (exits (full over)))
         where
-          long : (length (bytes (takenTo ys (i .0) .writable)) ≡ 64) × ((length (bytes (takenTo ys (i .0) .sizes)) ≡ 64) × (length (bytes (takenTo ys (i .0) .kinds)) ≡ 64))
-          long = let c = columns (takenTo ys (i .0)) (i .1 .1) in (length-column (takenTo ys (i .0) .writable) (c .0), (length-column (takenTo ys (i .0) .sizes) (c .1 .0), length-column (takenTo ys (i .0) .kinds) (c .1 .1)))
+          long : (length (bytes (columnsTo ys (i .0) .writable)) ≡ 64) × ((length (bytes (columnsTo ys (i .0) .sizes)) ≡ 64) × (length (bytes (columnsTo ys (i .0) .kinds)) ≡ 64))
+          long = let c = columns (columnsTo ys (i .0)) (i .1 .1) in (length-column (columnsTo ys (i .0) .writable) (c .0), (length-column (columnsTo ys (i .0) .sizes) (c .1 .0), length-column (columnsTo ys (i .0) .kinds) (c .1 .1)))
 
           within : Holds (ltb (i .0) m) → {k : ℕ} → k ≡ 64 → i .0 < k
           within less e = omega (arith, ltb→lt (i .0) m less, e)
@@ -319,11 +319,11 @@ module _ {M : Type 1} (𝓤 : URA M) (H : Heap 𝓤) (A : Atoms 𝓤) (W : Given
           all : Holds (not (ltb (i .0) m)) → i .0 ≡ m
           all over = le-antisymm (i .1 .0) (nltb→le (i .0) m over)
 
-          full : Holds (not (ltb (i .0) m)) → IsT (takenOf ys)
-          full over = subst (λ (k : ℕ). IsT (takenTo ys k)) (all over) (i .1 .1)
+          full : Holds (not (ltb (i .0) m)) → IsT (columnsOf ys)
+          full over = subst (λ (k : ℕ). IsT (columnsTo ys k)) (all over) (i .1 .1)
 
-          ended : Holds (not (ltb (i .0) m)) → IsColumn (takenOf ys .writable) × (IsColumn (takenOf ys .sizes) × IsColumn (takenOf ys .kinds))
-          ended over = columns (takenOf ys) (full over)
+          ended : Holds (not (ltb (i .0) m)) → IsColumn (columnsOf ys .writable) × (IsColumn (columnsOf ys .sizes) × IsColumn (columnsOf ys .kinds))
+          ended over = columns (columnsOf ys) (full over)
 
       looped : (i : Upto) → Sq W (At i) (runs C Λ En text.t-7 (atRet En Post))
       looped i = first ! $ blocks ! $ loops ! 𝓣 Nearer Nearer-wf At turns i
@@ -356,20 +356,20 @@ module _ {M : Type 1} (𝓤 : URA M) (H : Heap 𝓤) (A : Atoms 𝓤) (W : Given
         looped l₀ l₁ l₂ l₃ l₄ l₅ l₆ l₇ l₈ l₉ l₁₀ l₁₁ l₁₂ l₁₃ l₁₄ l₁₅ l₁₆ l₁₇ l₁₈ l₁₉ l₂₀ l₂₁ (0, (zero-le, is-none))))))))))))))))))))))))))))
 
 module _ {M : Type 1} (𝓤 : URA M) (H : Heap 𝓤) (A : Atoms 𝓤) (W : Given 𝓤 H A) (mem : Memory → SProp 𝓤) (run : Routine → Fun 𝓤) (𝓣 : Tables 𝓤 H) where
-  f-walks : FmC 𝓤 H (W .laws) (𝓣 .C) → Triple 𝓤 (𝓣 .C #taken·stored) (Few 𝓤 H A mem run)
+  f-walks : FmC 𝓤 H (W .laws) (𝓣 .C) → Triple 𝓤 (𝓣 .C #columns·stored) (Few 𝓤 H A mem run)
       → Walks 𝓤 H A f.ended stayed (WpFn 𝓤 H (𝓣 .C) (𝓣 .Λ) code.function) (f.clauses 𝓤 H A mem run)
   f-walks fm known-few = walked 𝓤 H A f.ended stayed (f.clauses 𝓤 H A mem run) (WpFn 𝓤 H (𝓣 .C) (𝓣 .Λ) code.function) (λ κs. (slice-vals, tt)) (λ κs. (shr-slice-tells (named 0) (κs .0) R.the-row, tt))
       (λ κs qs bounds a g are. via 𝓤 _ (fst∗ 𝓤 _ (emp 𝓤)) (walk 𝓤 H A W mem run (κs .0) (qs .0) (a .0 .ptr .0) (a .0 .ptr .1) (a .0 .name) (a .0 .now) (are .0 .0 .1) 𝓣 fm known-few))
 
-  f-meets : Triple 𝓤 (𝓣 .C #taken·stored) (Few 𝓤 H A mem run)
+  f-meets : Triple 𝓤 (𝓣 .C #columns·stored) (Few 𝓤 H A mem run)
       → Meets 𝓤 H A f.signature (WpFn 𝓤 H (𝓣 .C) (𝓣 .Λ) code.function) (f.spec 𝓤 H A mem run)
   f-meets known-few = walk-meets 𝓤 H A f.ended stayed W (goes-none-slice 𝓤 H A W 1 (0 ∷ []) tt (plain (λ _. R.the-row)) yes, tt) (f.clauses 𝓤 H A mem run) (WpFn 𝓤 H (𝓣 .C) (𝓣 .Λ) code.function) (WpFn-mono 𝓤 H (W .laws) 𝓣 code.function)
       (f-walks (fmOf 𝓤 H (W .laws) 𝓣) known-few)
 
-pub records-of-spec : {M : Type 1} → stated.statement M
+pub columns-of-spec : {M : Type 1} → stated.statement M
 unfolding code.routine tablesOf
-records-of-spec 𝓤 H 𝓜 𝓖 𝓡 =
+columns-of-spec 𝓤 H 𝓜 𝓖 𝓡 =
     entered 𝓤 H (tripleOf 𝓤 H (𝓖 .A) f.signature (f.spec 𝓤 H (𝓖 .A) (𝓜 .mem) (𝓡 .run)))
-    (tables 𝓤 H 𝓜 𝓡 code.env .C) (tables 𝓤 H 𝓜 𝓡 code.env .Λ) #taken·records-of code.function (code.unfolded 𝓤 H 𝓜 𝓡)
+    (tables 𝓤 H 𝓜 𝓡 code.env .C) (tables 𝓤 H 𝓜 𝓡 code.env .Λ) #columns·columns-of code.function (code.unfolded 𝓤 H 𝓜 𝓡)
     (f-meets 𝓤 H (𝓖 .A) (givenOf 𝓤 H 𝓜 𝓖) (𝓜 .mem) (𝓡 .run) (tablesOf 𝓤 H 𝓜 (tables 𝓤 H 𝓜 𝓡 code.env))
-    (cited 𝓤 H (Few 𝓤 H (𝓖 .A) (𝓜 .mem) (𝓡 .run)) 𝓜 𝓡 code.env #taken·stored few-def.routine code.calls-taken·stored (few-thm.met 𝓤 H 𝓜 𝓖 𝓡)))
+    (cited 𝓤 H (Few 𝓤 H (𝓖 .A) (𝓜 .mem) (𝓡 .run)) 𝓜 𝓡 code.env #columns·stored few-def.routine code.calls-columns·stored (few-thm.met 𝓤 H 𝓜 𝓖 𝓡)))

@@ -1,8 +1,8 @@
--- `store_told` meets its contract. Assumes nothing.
+-- `board_store` meets its contract. Assumes nothing.
 use borrow.Author.Needs.{needs}
-use Rattle.telling.proofs.Tells.{store-tells}
-use Rattle.telling.proofs.store_told.Statement.{statement}
-use Rattle.telling.proofs.store_told.Tie as tie
+use Rattle.plain.proofs.Plain.{store-plain}
+use Rattle.plain.proofs.board_store.Statement.{statement}
+use Rattle.plain.proofs.board_store.Tie as tie
 
-pub store-told-spec : {M : Type 1} → statement M
-store-told-spec = tie.close (tie.spec (λ c κs. search needs) (λ c κs. search needs) (λ c. search needs) (λ c. search (store-tells, needs)))
+pub board-store-spec : {M : Type 1} → statement M
+board-store-spec = tie.close (tie.spec (λ c κs. search needs) (λ c κs. search needs) (λ c. search needs) (λ c. search (store-plain, needs)))

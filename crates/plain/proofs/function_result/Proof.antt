@@ -1,8 +1,8 @@
--- `result_told` meets its contract. Assumes nothing.
+-- `function_result` meets its contract. Assumes nothing.
 use borrow.Author.Needs.{needs}
-use Rattle.telling.proofs.Tells.{result-tells}
-use Rattle.telling.proofs.result_told.Statement.{statement}
-use Rattle.telling.proofs.result_told.Tie as tie
+use Rattle.plain.proofs.Plain.{result-plain}
+use Rattle.plain.proofs.function_result.Statement.{statement}
+use Rattle.plain.proofs.function_result.Tie as tie
 
-pub result-told-spec : {M : Type 1} → statement M
-result-told-spec = tie.close (tie.spec (λ c κs. search needs) (λ c κs. search needs) (λ c κs. search needs) (λ c. search needs) (λ c. search (result-tells, needs)))
+pub function-result-spec : {M : Type 1} → statement M
+function-result-spec = tie.close (tie.spec (λ c κs. search needs) (λ c κs. search needs) (λ c κs. search needs) (λ c. search needs) (λ c. search (result-plain, needs)))

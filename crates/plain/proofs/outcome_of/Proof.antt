@@ -1,11 +1,11 @@
--- `tell` meets its contract: each ending in its numbers. Assumes nothing.
+-- `outcome_of` meets its contract: each ending in its numbers. Assumes nothing.
 use mathlib.Core.Path.{refl}
 use borrow.Author.Needs.{needs}
-use Rattle.told.proofs.tell.Statement.{statement}
-use Rattle.told.proofs.tell.Tie as tie
+use Rattle.plain.proofs.outcome_of.Statement.{statement}
+use Rattle.plain.proofs.outcome_of.Tie as tie
 
-pub tell-spec : {M : Type 1} → statement M
-tell-spec =
+pub outcome-of-spec : {M : Type 1} → statement M
+outcome-of-spec =
     tie.close
     (tie.spec (λ c. search needs) (λ c. search needs) (λ c. search needs) (λ c. search needs) (λ c κs. search needs)
     (λ c. rw (c .before .outcome .given .1) (refl))

@@ -1,8 +1,8 @@
--- `read_signed_told` meets its contract. Assumes nothing.
+-- `read_signed` meets its contract. Assumes nothing.
 use borrow.Author.Needs.{needs}
-use Rattle.telling.proofs.Tells.{read-tells}
-use Rattle.telling.proofs.read_signed_told.Statement.{statement}
-use Rattle.telling.proofs.read_signed_told.Tie as tie
+use Rattle.plain.proofs.Plain.{read-plain}
+use Rattle.plain.proofs.read_signed.Statement.{statement}
+use Rattle.plain.proofs.read_signed.Tie as tie
 
-pub read-signed-told-spec : {M : Type 1} → statement M
-read-signed-told-spec = tie.close (tie.spec (λ c κs. search needs) (λ c κs. search needs) (λ c. search (read-tells, needs)))
+pub read-signed-spec : {M : Type 1} → statement M
+read-signed-spec = tie.close (tie.spec (λ c κs. search needs) (λ c κs. search needs) (λ c. search (read-plain, needs)))

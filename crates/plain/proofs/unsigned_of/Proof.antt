@@ -1,11 +1,11 @@
--- `tell_unsigned` meets its contract. Assumes nothing.
+-- `unsigned_of` meets its contract. Assumes nothing.
 use mathlib.Core.Path.{refl}
 use borrow.Author.Needs.{needs}
-use Rattle.told.proofs.tell_unsigned.Statement.{statement}
-use Rattle.told.proofs.tell_unsigned.Tie as tie
+use Rattle.plain.proofs.unsigned_of.Statement.{statement}
+use Rattle.plain.proofs.unsigned_of.Tie as tie
 
-pub tell-unsigned-spec : {M : Type 1} → statement M
-tell-unsigned-spec =
+pub unsigned-of-spec : {M : Type 1} → statement M
+unsigned-of-spec =
     tie.close
     (tie.spec (λ c. search needs) (λ c. search needs) (λ c κs. search needs) (λ c. search needs)
     (λ c. rw (c .before .reading .given .1) (refl))

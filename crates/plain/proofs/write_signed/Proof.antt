@@ -1,9 +1,9 @@
--- `write_signed_told` meets its contract. Assumes nothing.
+-- `write_signed` meets its contract. Assumes nothing.
 use mir.Facts.{toZ-ofZ}
 use borrow.Author.Needs.{needs}
-use Rattle.telling.proofs.Tells.{write-signed-tells}
-use Rattle.telling.proofs.write_signed_told.Statement.{statement}
-use Rattle.telling.proofs.write_signed_told.Tie as tie
+use Rattle.plain.proofs.Plain.{write-signed-plain}
+use Rattle.plain.proofs.write_signed.Statement.{statement}
+use Rattle.plain.proofs.write_signed.Tie as tie
 
-pub write-signed-told-spec : {M : Type 1} → statement M
-write-signed-told-spec = tie.close (tie.spec (λ c κs. search needs) (λ c κs. search needs) (λ c. search needs) (λ c. search (write-signed-tells, toZ-ofZ, needs)))
+pub write-signed-spec : {M : Type 1} → statement M
+write-signed-spec = tie.close (tie.spec (λ c κs. search needs) (λ c κs. search needs) (λ c. search needs) (λ c. search (write-signed-plain, toZ-ofZ, needs)))

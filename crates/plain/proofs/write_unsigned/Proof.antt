@@ -1,8 +1,8 @@
--- `write_unsigned_told` meets its contract. Assumes nothing.
+-- `write_unsigned` meets its contract. Assumes nothing.
 use borrow.Author.Needs.{needs}
-use Rattle.telling.proofs.Tells.{write-tells}
-use Rattle.telling.proofs.write_unsigned_told.Statement.{statement}
-use Rattle.telling.proofs.write_unsigned_told.Tie as tie
+use Rattle.plain.proofs.Plain.{write-plain}
+use Rattle.plain.proofs.write_unsigned.Statement.{statement}
+use Rattle.plain.proofs.write_unsigned.Tie as tie
 
-pub write-unsigned-told-spec : {M : Type 1} → statement M
-write-unsigned-told-spec = tie.close (tie.spec (λ c κs. search needs) (λ c κs. search needs) (λ c. search needs) (λ c. search (write-tells, needs)))
+pub write-unsigned-spec : {M : Type 1} → statement M
+write-unsigned-spec = tie.close (tie.spec (λ c κs. search needs) (λ c κs. search needs) (λ c. search needs) (λ c. search (write-plain, needs)))
