@@ -13,7 +13,7 @@ use lib.ListN.{length, take, drop, getD, length-take, length-append}
 use lib.Seq.{take-take, take-append-seam}
 use Rattle.bsmp.specs.Base.{join}
 use Rattle.bsmp.specs.Board.{Table, layout, State, blockSizes, usable, variable, function}
-use Rattle.bsmp.specs.Packet.{Place, refuse, resultTests, storeTests, packet, functionResult, boardStore}
+use Rattle.bsmp.specs.Packet.{Place, refuse, resultTests, storeTests, functionResult, boardStore}
 use Rattle.bsmp.specs.Packet as P
 use Rattle.bsmp.specs.Message as Message
 use Rattle.bsmp.specs.Store.{Lent, held, lentOf, bytesIn, Left, leaves}
@@ -87,7 +87,8 @@ table-says gs g h =
     groups-lent (tableWith gs g) n ∙ take-take (length gs) 5 (gs ++ drop (length gs) (g .sets)) h ∙ take-append-seam gs (drop (length gs) (g .sets))
 
 module _ (x : Lending) (own multicast busy : ℕ) (request reply : List ℕ) (u : usable (tableIn x) (heldIn x) ≡ true)
-    (o : PlainOutcome) (g′ : Groups) (reply′ values′ blocks′ : List ℕ) (h : plainPacketLeft o g′ reply′ values′ blocks′ ≡ packetOf x own multicast busy request reply) where
+    (o : PlainOutcome) (g′ : Groups) (reply′ values′ blocks′ : List ℕ)
+    (h : plainPacketLeft o g′ reply′ values′ blocks′ ≡ packetOf x own multicast busy request reply) where
   abbrev t : Table
   t = tableIn x
 
@@ -126,19 +127,24 @@ result-gives x a f due failed error output reply o reply′ h =
     let k : y .holds ≡ heldIn x = result-keeps t (length reply) (function f) due (ranOf (ranFrom failed error) output) (heldIn x) in
     record {
       sees-it = (λ i. plainSeen (h i .outcome) (h i .reply)) ∙ seen-plain (y .outcome) (y .buffer);
-      leaves-it = sym (ap lentOf k ∙ ap₂ (λ z w. lent z w (groupsOf (x .groups))) (join-cut (layout t .sizes) (x .values)) (join-cut (blockSizes (layout t .curves)) (x .blocks)));
+      leaves-it = sym (ap lentOf k
+          ∙ ap₂ (λ z w. lent z w (groupsOf (x .groups))) (join-cut (layout t .sizes) (x .values)) (join-cut (blockSizes (layout t .curves)) (x .blocks)));
     }
 
 -- `bsmp_board_store`, on any board: blocks and groups stay --------------------------------------------------------------------
-store-seen : (t : Table) (i : VariableNumber) (b : List ℕ) (s : State) → numberSeen (storedNumber (storedOf (boardStore t i b s .ending))) ≡ plainSeenOf (seenOf (leaves (boardStore t i b s) []))
+store-seen : (t : Table) (i : VariableNumber) (b : List ℕ) (s : State)
+    → numberSeen (storedNumber (storedOf (boardStore t i b s .ending))) ≡ plainSeenOf (seenOf (leaves (boardStore t i b s) []))
 unfolding boardStore
 store-seen t i b s =
-    first-case (λ x. numberSeen (storedNumber (storedOf (x .ending))) ≡ plainSeenOf (seenOf (leaves x []))) (storeTests (usable t s) (layout t) i b) (refuse s) _ number-refused (λ c. refl)
+    first-case (λ x. numberSeen (storedNumber (storedOf (x .ending))) ≡ plainSeenOf (seenOf (leaves x [])))
+    (storeTests (usable t s) (layout t) i b) (refuse s) _ number-refused (λ c. refl)
 
-store-keeps : (t : Table) (i : VariableNumber) (b : List ℕ) (s : State) → (s .blocks ≡ boardStore t i b s .state .blocks) × (s .groups ≡ boardStore t i b s .state .groups)
+store-keeps : (t : Table) (i : VariableNumber) (b : List ℕ) (s : State)
+    → (s .blocks ≡ boardStore t i b s .state .blocks) × (s .groups ≡ boardStore t i b s .state .groups)
 unfolding boardStore Message.after
 store-keeps t i b s =
-    first-case (λ x. (s .blocks ≡ x .state .blocks) × (s .groups ≡ x .state .groups)) (storeTests (usable t s) (layout t) i b) (refuse s) _ (λ m. (refl, refl)) (λ c. (refl, refl))
+    first-case (λ x. (s .blocks ≡ x .state .blocks) × (s .groups ≡ x .state .groups))
+    (storeTests (usable t s) (layout t) i b) (refuse s) _ (λ m. (refl, refl)) (λ c. (refl, refl))
 
 pub store-gives : (x : Lending) (a : Place) (i : ℕ) (bytes : List ℕ) (n : ℕ) (values′ : List ℕ) → plainBytesLeft n values′ ≡ storeOf x i bytes
     → Gives (tableIn x) a (turn (storeIn (variable i) bytes) (numberSeen n) (lent values′ (x .blocks) (groupsOf (x .groups)))) (lentIn x)
@@ -153,7 +159,8 @@ store-gives x a i bytes n values′ h =
 
 -- runs of calls ---------------------------------------------------------------------------------------------------------------
 -- a usable board is usable again after any call
-pub gives-usable : (t : Table) (a : Place) (r : Turn) (x : Lent) → Gives t a r x → usable t (held (layout t) x) ≡ true → usable t (held (layout t) (r .after)) ≡ true
+pub gives-usable : (t : Table) (a : Place) (r : Turn) (x : Lent) → Gives t a r x
+    → usable t (held (layout t) x) ≡ true → usable t (held (layout t) (r .after)) ≡ true
 gives-usable t a r x g u =
     let s : State = leftBy t a (r .call) x .holds in
     let k : usable t s ≡ true = stays t a (eventOf (r .call)) (held (layout t) x) u in
@@ -174,7 +181,8 @@ abbrev pub lentLast : List Turn → Lent → Lent
 lentLast [] x = x
 lentLast (r ∷ rs) x = lentLast rs (r .after)
 
-runs-are : (t : Table) (a : Place) (rs : List Turn) (x : Lent) → Runs t a rs x → (seenIn rs ≡ map plainSeenOf (seenAll t a (callsOf rs) x)) × (lentLast rs x ≡ lentAfter t a (callsOf rs) x)
+runs-are : (t : Table) (a : Place) (rs : List Turn) (x : Lent) → Runs t a rs x
+    → (seenIn rs ≡ map plainSeenOf (seenAll t a (callsOf rs) x)) × (lentLast rs x ≡ lentAfter t a (callsOf rs) x)
 runs-are t a [] x h = (refl, refl)
 runs-are t a (r ∷ rs) x h =
     let n = runs-are t a rs (r .after) (h .1) in
@@ -182,7 +190,8 @@ runs-are t a (r ∷ rs) x h =
     (ap₂ _∷_ (h .0 .sees-it) (n .0 ∙ ap (λ y. map plainSeenOf (seenAll t a (callsOf rs) y)) e), n .1 ∙ ap (lentAfter t a (callsOf rs)) e)
 
 -- demand 3 for two runs, on two boards that lend alike but for v: the same calls, none of which reads v
-module _ (t : Table) (a : Place) (v : VariableNumber) (x₁ x₂ : Lent) (u₁ : usable t (held (layout t) x₁) ≡ true) (u₂ : usable t (held (layout t) x₂) ≡ true) (h : LentAlike (layout t) v x₁ x₂) where
+module _ (t : Table) (a : Place) (v : VariableNumber) (x₁ x₂ : Lent)
+    (u₁ : usable t (held (layout t) x₁) ≡ true) (u₂ : usable t (held (layout t) x₂) ≡ true) (h : LentAlike (layout t) v x₁ x₂) where
   module _ (rs₁ rs₂ : List Turn) (runs₁ : Runs t a rs₁ x₁) (runs₂ : Runs t a rs₂ x₂) (same : map eventOf (callsOf rs₁) ≡ map eventOf (callsOf rs₂))
       (quiet : unread t a v (map eventOf (callsOf rs₁)) (held (layout t) x₁) ≡ true) where
     -- all that is seen is equal, and the boards lend alike but for v ..
@@ -200,7 +209,8 @@ module _ (t : Table) (a : Place) (v : VariableNumber) (x₁ x₂ : Lent) (u₁ :
     calls-apart r₁ r₂ g₁ g₂ e k q =
         let n₁ = runs-are t a rs₁ x₁ runs₁ .1 in
         let n₂ = runs-are t a rs₂ x₂ runs₂ .1 in
-        let w = lent-apart t a v x₁ x₂ u₁ u₂ h (callsOf rs₁) (callsOf rs₂) same quiet (r₁ .call) (r₂ .call) e k (sym (ap (λ y. reads t a v (eventOf (r₁ .call)) (held (layout t) y)) n₁) ∙ q) in
+        let f = sym (ap (λ y. reads t a v (eventOf (r₁ .call)) (held (layout t) y)) n₁) ∙ q in
+        let w = lent-apart t a v x₁ x₂ u₁ u₂ h (callsOf rs₁) (callsOf rs₂) same quiet (r₁ .call) (r₂ .call) e k f in
         let a₁ = ap (λ (s : PlainSeen). s .answer) (g₁ .sees-it) ∙ ap (λ y. seenOf (leftBy t a (r₁ .call) y) .answer) n₁ in
         let a₂ = ap (λ (s : PlainSeen). s .answer) (g₂ .sees-it) ∙ ap (λ y. seenOf (leftBy t a (r₂ .call) y) .answer) n₂ in
         let b₁ = ap (λ (y : Lent). bytesIn (layout t) (y .values) v) (g₁ .leaves-it ∙ ap (λ y. lentOf (leftBy t a (r₁ .call) y .holds)) n₁) in

@@ -6,7 +6,7 @@ use Prim.Native.Nat.{ℕ, _<_}
 use native.Mathlib.Omega.{arith}
 use lib.IntN.{ℤ}
 use lib.ListN.{length}
-use Rattle.bsmp.specs.Board.{layout, blockSizes, usable, usableVariables, variable, function}
+use Rattle.bsmp.specs.Board.{layout, blockSizes, usable, usableVariables, variable}
 use Rattle.bsmp.specs.Packet.{Result, refuse, packet, functionResult, boardStore}
 use Rattle.bsmp.specs.Number.{Reading, Written, reading, writing}
 use Rattle.bsmp.specs.declared.Variable.{Variable}
@@ -18,14 +18,14 @@ use Rattle.records.specs.Lending.{recordsOf, groupsOf}
 use Rattle.records.proofs.Sound.{usable-sound, variables-most}
 use Rattle.wire.specs.Opening.{placed}
 use Rattle.node.specs.Promise.{tableWith, lasting}
-use Rattle.results.specs.Results.{ranOf, resultLeft, resultLeftOf, storeLeft, storeLeftOf}
+use Rattle.results.specs.Results.{resultLeft, resultLeftOf, storeLeft, storeLeftOf}
 use Rattle.results.specs.declared.Stored.the-variants as S
 use Rattle.readings.specs.Answers.{writingLeftOf}
 use Rattle.columns.specs.Columns.{columnsOf}
 use Rattle.columns.proofs.Columns.{columns-same}
 use Rattle.plain.specs.Lending.{Lending, tableIn, lentIn, heldIn}
-use Rattle.plain.specs.Numbers.{ranFrom, plainReadingOf}
-use Rattle.plain.specs.Calls.{PlainPacketLeft, plainPacketLeftOf, packetOf, PlainResultLeft, plainResultLeftOf, resultOf, PlainBytesLeft, plainStoreLeftOf, plainWritingLeftOf, storeOf, writingOf, readingOf}
+use Rattle.plain.specs.Numbers.{plainOutcomeOf, plainReadingOf}
+use Rattle.plain.specs.Calls.{PlainPacketLeft, plainPacketLeft, plainPacketLeftOf, packetOf, PlainResultLeft, plainResultLeftOf, resultOf, PlainBytesLeft, plainStoreLeftOf, plainWritingLeftOf, storeOf, writingOf, readingOf}
 
 -- the same with other variable records
 abbrev pub withVariables : List Variable → Lending → Lending
@@ -49,7 +49,7 @@ long-board x h = broken (usable (tableIn x) (heldIn x)) (λ e. omega (arith, var
 module _ (x : Lending) (own multicast busy : ℕ) (request reply : List ℕ) where
   abbrev untouched : PlainPacketLeft
   untouched =
-      plainPacketLeftOf (record { outcome = O.Refused BoardUnusable; groups = tableWith (groupsOf (x .groups)) (x .groups); reply = reply; values = x .values; blocks = x .blocks })
+      plainPacketLeft (plainOutcomeOf (O.Refused BoardUnusable)) (tableWith (groupsOf (x .groups)) (x .groups)) reply (x .values) (x .blocks)
 
   module _ (us : List Variable) (h : 64 < length us) where
     abbrev y : Lending
@@ -60,18 +60,17 @@ module _ (x : Lending) (own multicast busy : ℕ) (request reply : List ℕ) whe
     stops = sym (first-stop _ _ _ _ _ _ _ (long-board y h) refl)
 
     long-packet : packetOf y own multicast busy request reply ≡ untouched
-    long-packet = ap (λ z. plainPacketLeftOf (lasting z reply (x .groups))) stops ∙ (λ i. plainPacketLeftOf (record {
-      outcome = O.Refused BoardUnusable;
-      groups = tableWith (groupsOf (x .groups)) (x .groups);
-      reply = reply;
-      values = join-cut (layout (tableIn y) .sizes) (x .values) i;
-      blocks = join-cut (blockSizes (layout (tableIn y) .curves)) (x .blocks) i;
-    }))
+    long-packet =
+        let values = join-cut (layout (tableIn y) .sizes) (x .values) in
+        let blocks = join-cut (blockSizes (layout (tableIn y) .curves)) (x .blocks) in
+        ap (λ z. plainPacketLeftOf (lasting z reply (x .groups))) stops
+        ∙ (λ i. plainPacketLeft (plainOutcomeOf (O.Refused BoardUnusable)) (tableWith (groupsOf (x .groups)) (x .groups)) reply (values i) (blocks i))
 
   pub packet-same : packetOf (byColumns x) own multicast busy request reply ≡ packetOf x own multicast busy request reply
   packet-same = columns-same (λ us. packetOf (withVariables us x) own multicast busy request reply) untouched long-packet (x .variables)
 
-pub result-same : (x : Lending) (f : ℕ) (due failed : Bool) (error : ℕ) (output reply : List ℕ) → resultOf (byColumns x) f due failed error output reply ≡ resultOf x f due failed error output reply
+pub result-same : (x : Lending) (f : ℕ) (due failed : Bool) (error : ℕ) (output reply : List ℕ)
+    → resultOf (byColumns x) f due failed error output reply ≡ resultOf x f due failed error output reply
 unfolding functionResult
 result-same x f due failed error output reply =
     columns-same (λ us. resultOf (withVariables us x) f due failed error output reply) refused long (x .variables)
@@ -80,7 +79,8 @@ result-same x f due failed error output reply =
     refused = plainResultLeftOf (resultLeft (O.Refused BoardUnusable) reply)
 
     long : (us : List Variable) → 64 < length us → resultOf (withVariables us x) f due failed error output reply ≡ refused
-    long us h = sym (ap (λ (y : Result). plainResultLeftOf (resultLeftOf (y .ending) reply)) (first-stop _ _ _ _ _ _ _ (long-board (withVariables us x) h) refl))
+    long us h =
+        sym (ap (λ (y : Result). plainResultLeftOf (resultLeftOf (y .ending) reply)) (first-stop _ _ _ _ _ _ _ (long-board (withVariables us x) h) refl))
 
 pub store-same : (x : Lending) (i : ℕ) (bytes : List ℕ) → storeOf (byColumns x) i bytes ≡ storeOf x i bytes
 unfolding boardStore
@@ -94,14 +94,16 @@ store-same x i bytes = columns-same (λ us. storeOf (withVariables us x) i bytes
         sym (ap (λ (y : Result). plainStoreLeftOf (storeLeftOf y)) (first-stop _ _ _ _ _ _ _ (long-board (withVariables us x) h) refl))
         ∙ ap refused (join-cut (layout (tableIn (withVariables us x)) .sizes) (x .values))
 
-pub reading-same : (vs : List Variable) (i : ℕ) (signed : Bool) (bytes : List ℕ) → readingOf (recordsOf (columnsOf vs)) i signed bytes ≡ readingOf vs i signed bytes
+pub reading-same : (vs : List Variable) (i : ℕ) (signed : Bool) (bytes : List ℕ)
+    → readingOf (recordsOf (columnsOf vs)) i signed bytes ≡ readingOf vs i signed bytes
 unfolding reading
 reading-same vs i signed bytes = columns-same (λ us. readingOf us i signed bytes) (plainReadingOf (Reading.refused BoardUnusable)) long vs
   where
     long : (us : List Variable) → 64 < length us → readingOf us i signed bytes ≡ plainReadingOf (Reading.refused BoardUnusable)
     long us h = sym (ap plainReadingOf (first-stop _ _ _ _ _ _ _ (long-variables us h) refl))
 
-pub writing-same : (vs : List Variable) (i : ℕ) (signed : Bool) (z : ℤ) (buffer : List ℕ) → writingOf (recordsOf (columnsOf vs)) i signed z buffer ≡ writingOf vs i signed z buffer
+pub writing-same : (vs : List Variable) (i : ℕ) (signed : Bool) (z : ℤ) (buffer : List ℕ)
+    → writingOf (recordsOf (columnsOf vs)) i signed z buffer ≡ writingOf vs i signed z buffer
 unfolding writing
 writing-same vs i signed z buffer = columns-same (λ us. writingOf us i signed z buffer) (left (Written.refused BoardUnusable)) long vs
   where

@@ -36,7 +36,8 @@ packet-unique x o o′ g g′ r r′ vs vs′ bs bs′ h k =
     let e : plainPacketLeft o g r vs bs ≡ plainPacketLeft o′ g′ r′ vs′ bs′ = h ∙ sym k in
     (λ i. e i .outcome, λ i. e i .groups, λ i. e i .reply, λ i. e i .values, λ i. e i .blocks)
 
-pub function-result-unique : (x : PlainResultLeft) (o o′ : PlainOutcome) (r r′ : List ℕ) → plainResultLeft o r ≡ x → plainResultLeft o′ r′ ≡ x → (o ≡ o′) × (r ≡ r′)
+pub function-result-unique : (x : PlainResultLeft) (o o′ : PlainOutcome) (r r′ : List ℕ)
+    → plainResultLeft o r ≡ x → plainResultLeft o′ r′ ≡ x → (o ≡ o′) × (r ≡ r′)
 function-result-unique x o o′ r r′ h k = let e : plainResultLeft o r ≡ plainResultLeft o′ r′ = h ∙ sym k in (λ i. e i .outcome, λ i. e i .reply)
 
 -- a board store, and both writings
@@ -60,8 +61,8 @@ refused-kind O.Silence h = absurd (let z : _≡_ {A = ℕ} 1 3 = h in omega (ari
 refused-kind (O.Run f n due) h = absurd (let z : _≡_ {A = ℕ} 2 3 = h in omega (arith, z))
 refused-kind (O.Refused n) h = (n, refl)
 
-pub packet-refused : (x : Lending) (own multicast busy : ℕ) (request reply : List ℕ) (o : PlainOutcome) (g′ : Groups) (reply′ values′ blocks′ : List ℕ) → length (x .groups .sets) ≡ 5
-    → plainPacketLeft o g′ reply′ values′ blocks′ ≡ packetOf x own multicast busy request reply → o .kind ≡ 3
+pub packet-refused : (x : Lending) (own multicast busy : ℕ) (request reply : List ℕ) (o : PlainOutcome) (g′ : Groups) (reply′ values′ blocks′ : List ℕ)
+    → length (x .groups .sets) ≡ 5 → plainPacketLeft o g′ reply′ values′ blocks′ ≡ packetOf x own multicast busy request reply → o .kind ≡ 3
     → (reply′ ≡ reply) × (values′ ≡ x .values) × (blocks′ ≡ x .blocks) × (g′ ≡ x .groups)
 packet-refused x own multicast busy request reply o g′ reply′ values′ blocks′ five h k =
     let y : Lasting = lasting (packet (tableIn x) (placed own multicast) busy (length reply) request (heldIn x)) reply (x .groups) in
@@ -82,13 +83,15 @@ refused-store : (s : Stored) → (storedNumber s ≡ 0 → ⊥) → (n : Refusal
 refused-store S.Done h = absurd (h refl)
 refused-store (S.Refused n) h = (n, refl)
 
-pub board-store-refused : (x : Lending) (i : ℕ) (bs : List ℕ) (n : ℕ) (values′ : List ℕ) → plainBytesLeft n values′ ≡ storeOf x i bs → (n ≡ 0 → ⊥) → values′ ≡ x .values
+pub board-store-refused : (x : Lending) (i : ℕ) (bs : List ℕ) (n : ℕ) (values′ : List ℕ)
+    → plainBytesLeft n values′ ≡ storeOf x i bs → (n ≡ 0 → ⊥) → values′ ≡ x .values
 board-store-refused x i bs n values′ h k =
     let y : StoreLeft = storeLeftOf (boardStore (tableIn x) (variable i) bs (heldIn x)) in
     let r = refused-store (y .stored) (λ e. k ((λ i. h i .number) ∙ e)) in
     (λ i. h i .bytes) ∙ refused-values (tableIn x) (variable i) bs (lentIn x) (r .0) (y .values) (ap (λ (u : Stored). storeLeft u (y .values)) (sym (r .1)))
 
-refused-buffer : (w : Written) (buffer : List ℕ) (n : ℕ) (buffer′ : List ℕ) → plainBytesLeft n buffer′ ≡ plainWritingLeftOf (writingLeftOf w buffer) → (n ≡ 0 → ⊥) → buffer′ ≡ buffer
+refused-buffer : (w : Written) (buffer : List ℕ) (n : ℕ) (buffer′ : List ℕ)
+    → plainBytesLeft n buffer′ ≡ plainWritingLeftOf (writingLeftOf w buffer) → (n ≡ 0 → ⊥) → buffer′ ≡ buffer
 refused-buffer (bytes b) buffer n buffer′ h k = absurd (k (λ i. h i .number))
 refused-buffer (Written.refused m) buffer n buffer′ h k = λ i. h i .bytes
 

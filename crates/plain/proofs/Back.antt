@@ -16,8 +16,9 @@ use Rattle.plain.specs.declared.PlainOutcome.{PlainOutcome}
 
 abbrev refusalOf : ℕ → Refusal
 refusalOf n =
-    cond (eqb n 1) BoardUnusable (cond (eqb n 2) BadAddress (cond (eqb n 3) ReplyBufferShort (cond (eqb n 4) PacketLength (cond (eqb n 5) Checksum (cond (eqb n 6) NotForThisBoard
-    (cond (eqb n 7) NoSuchFunction (cond (eqb n 8) OutputLength (cond (eqb n 9) NoSuchVariable (cond (eqb n 10) WrongByteCount (cond (eqb n 11) WrongKind DoesNotFit))))))))))
+    cond (eqb n 1) BoardUnusable (cond (eqb n 2) BadAddress (cond (eqb n 3) ReplyBufferShort (cond (eqb n 4) PacketLength
+    (cond (eqb n 5) Checksum (cond (eqb n 6) NotForThisBoard (cond (eqb n 7) NoSuchFunction (cond (eqb n 8) OutputLength
+    (cond (eqb n 9) NoSuchVariable (cond (eqb n 10) WrongByteCount (cond (eqb n 11) WrongKind DoesNotFit))))))))))
 
 refusal-back : (r : Refusal) → refusalOf (refusalNumber r) ≡ r
 refusal-back BoardUnusable = refl

@@ -33,8 +33,8 @@ pub packet-plain : (d : Done) (o : PlainOutcome) (x : Lasting) (r vs bs : List �
 packet-plain d o x r vs bs e q = ap (λ (u : PlainOutcome). plainPacketLeft u (d .groups) r vs bs) q ∙ ap plainPacketLeftOf e
 
 -- ran′ is how the function ran, as plain numbers say it
-pub result-plain : (t : Table) (n : ℕ) (f : FunctionNumber) (due : Bool) (s : State) (ran ran′ : Ran) (output reply : List ℕ) (o : Outcome) (p : PlainOutcome) (r : List ℕ)
-    → ran ≡ ran′ → resultLeft o r ≡ resultLeftOf (functionResult t n f due (ranOf ran output) s .ending) reply → p ≡ plainOutcomeOf o
+pub result-plain : (t : Table) (n : ℕ) (f : FunctionNumber) (due : Bool) (s : State) (ran ran′ : Ran) (output reply : List ℕ)
+    (o : Outcome) (p : PlainOutcome) (r : List ℕ) → ran ≡ ran′ → resultLeft o r ≡ resultLeftOf (functionResult t n f due (ranOf ran output) s .ending) reply → p ≡ plainOutcomeOf o
     → plainResultLeft p r ≡ plainResultLeftOf (resultLeftOf (functionResult t n f due (ranOf ran′ output) s .ending) reply)
 result-plain t n f due s ran ran′ output reply o p r h e q =
     ap (λ (u : PlainOutcome). plainResultLeft u r) q
