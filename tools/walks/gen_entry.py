@@ -1,9 +1,9 @@
 #!/usr/bin/env python3
 """Writes proofs/FN/Proof.antt of a thin entry over its walk. Nothing here is trusted: the prover checks what is written.
 usage: gen_entry.py BOARD.json CRATE/NAME.json > crates/CRATE/proofs/FN/Proof.antt, NAME being the walk's module in CRATE.
-SHAPE's entry {fn, work LIB::FN, turn and law as LIB:part.Module.name, of}: what a call comes to, the law that it is the same of the records that the table says, and what
-both are taken of: the parameters by their names, and $board for all that is lent of a board. BOARD's table gives the function that takes the records into a table, and BOARD's
-board {term, uses} the term that stands for $board."""
+SHAPE's entry {fn, work LIB::FN, turn and law as LIB:part.Module.name, of}: what a call comes to, the law that it is the same of the records that
+the table says, and what both are taken of: the parameters by their names, and $board for all that is lent of a board. BOARD's table gives the function
+that takes the records into a table, and BOARD's board {term, uses} the term that stands for $board."""
 import json, os, re, string, sys
 S = {**json.load(open(sys.argv[1])), **json.load(open(sys.argv[2]))}
 shape = os.path.abspath(sys.argv[2])
@@ -17,7 +17,8 @@ def named(u): return module(u).rsplit(".", 1)
 tlib, table = S["table"]["fn"].split(":proofs.")
 (ofmod, of), (lawmod, law) = named(e["turn"]), named(e["law"])
 LIBRARY = {"true": "mathlib.Core.Bool", "false": "mathlib.Core.Bool", "pos": "lib.IntN"}
-uses = [f"{LIBRARY[word]}.{{{word}}}" for word in re.findall(r"\w+", e["of"]) if word in LIBRARY] + [module(u) for u in S["board"]["uses"] if "$board" in e["of"]]
+uses = [f"{LIBRARY[word]}.{{{word}}}" for word in re.findall(r"\w+", e["of"]) if word in LIBRARY]
+uses += [module(u) for u in S["board"]["uses"] if "$board" in e["of"]]
 given = string.Template(e["of"]).substitute(board=f'({S["board"]["term"]})')
 names = " ".join(S.get("work", [name for name, _, _ in S["params"]]))
 PR = f"Rattle.{c}.proofs"; T = module(S["table"]["fn"]); K = module(f"{lib}:proofs.{work}")
