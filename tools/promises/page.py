@@ -5,7 +5,7 @@ usage: tools/promises/page.py, from the repository's root. In a promise, x is wh
 """
 import glob, os, re
 
-ABOVE = ("entries", "bsmp_c", "bench")
+ABOVE = ("bsmp_c", "bench")
 LINE = re.compile(r"^(\w+):(.*)$")
 
 
@@ -24,8 +24,8 @@ def plain(text):
 
 
 def clauses(head, word):
-    found = re.findall(word + r" \{ (?:λ \w+\. )?⌜(.*?)⌝ \}", head, re.S)
-    return "; ".join("`" + plain(clause) + "`" for clause in found)
+    found = re.findall(word + r" \{ (?:λ \w+\. )?((?:let [^⌜]* in\s)?)\s*⌜(.*?)⌝ \}", head, re.S)
+    return "; ".join("`" + plain(names + clause) + "`" for names, clause in found)
 
 
 def functions(path):

@@ -12,11 +12,11 @@
 Nothing here is trusted: the prover checks what is written. usage: gen_thin.py BOARD.json CRATE/NAME.json > crates/CRATE/proofs/NAME.antt
 BOARD: types {type: the crate that declares it}; table {fn, walk, spec, read, table, uses}: `spec` gives the table of the lent records, `read` the records that a table says;
        fn, and the module walk, with the crate that has them; uses as CRATE:specs.Module.{names}.
-SHAPE: out [kind, type]; params [[name, kind, type]], kind: records | mut | shr | state | view | int | bool | struct | enum;
+SHAPE: out [kind, type]; params [[name, kind, type]], kind: records | mut | shr | state | view | int | bool | struct;
        work [the parameters' names in the callee's order] where it is another;
        answer {type, out [field, number], NAME [field, number] of each state} where there are states;
-       said {turn, work, entry, uses}: the type of what a call comes to, and the one equation that the two contracts state of it: $turn is what it comes to, $r the result,
-            and each state and each `mut` by its name is what it is last; `entry` only where it is another.
+       said {turn, work, entry, uses}: the type of what a call comes to, and how the two contracts say what the call leaves, which is equal to it: $r is the result, and each
+            state and each `mut` by its name is what it is last; `entry` only where it is another.
 An entry's `Proof` gives `turnOf`, what a call comes to by the lent records and the other arguments, and `agree`, that it is the same of the records that the table says.
 """
 import os, sys, json, re, string
@@ -42,7 +42,7 @@ DIRECT = not sts
 wk = [byname[n] for n in S.get("work", [p["name"] for p in P])]
 wrefs = [p for p in wk if p["kind"] in ("mut", "shr")]
 muts = [p for p in wk if p["kind"] == "mut"]; shrs = [p for p in wk if p["kind"] == "shr"]
-plains = [p for p in P if p["kind"] in ("int", "bool", "struct", "enum")]
+plains = [p for p in P if p["kind"] in ("int", "bool", "struct")]
 sl = [p for p in refs if p["kind"] in ("records", "mut", "shr")]
 L = len(refs); NP = len(P)
 loc = {"out": 0}
@@ -67,10 +67,10 @@ class Row:
             self.row, self.D, self.mir, self.vals, self.tells, self.makes = "Boolean", "Bool", "tyBool", "bool-vals", "bool-tells", "(bool-makes 𝓤 H A W)"
             self.mach = lambda x: f"vbool {x}"; self.typed = lambda x, p: "(tt, tt)"
         else:
-            m = mod(ty); X = "EL" if kind == "enum" else "LL"; t = " tt" if kind == "enum" else ""; mm = f"{m}.the-type {m}′"
-            self.row, self.D, self.mir, self.vals, self.tells, self.makes = f"{m}.the-row", ty, f"{m}′.mir", f"{X}.vals {mm}.the-laws", f"{X}.tells {mm}.the-laws", f"({X}.makes {mm}.the-plain 𝓤 H A)"
-            self.mach = lambda x: f"{X}.val {mm}.the-laws {x}"; self.typed = lambda x, p: f"({X}.lawful {mm}.the-laws 𝓤 H A W{t} .typed {x} _ {p} .0)"
-            self.copy = f"({X}.copy {mm}.the-copy 𝓤 H A W)"; self.owed = lambda d, p, i: f"LL.owed {mm}.the-laws {d} _ {p}{proj(i)}"
+            m = mod(ty); mm = f"{m}.the-type {m}′"
+            self.row, self.D, self.mir, self.vals, self.tells, self.makes = f"{m}.the-row", ty, f"{m}′.mir", f"LL.vals {mm}.the-laws", f"LL.tells {mm}.the-laws", f"(LL.makes {mm}.the-plain 𝓤 H A)"
+            self.mach = lambda x: f"LL.val {mm}.the-laws {x}"; self.typed = lambda x, p: f"(LL.lawful {mm}.the-laws 𝓤 H A W .typed {x} _ {p} .0)"
+            self.copy = f"(LL.copy {mm}.the-copy 𝓤 H A W)"; self.owed = lambda d, p, i: f"LL.owed {mm}.the-laws {d} _ {p}{proj(i)}"
     def is_(self, x): return f"Is {self.row} {x} ({self.mach(x)} ∷ [])"
     def own(self, x, p): return f"owned ! {self.row} (Is {self.row}) {self.makes} {x} _ {p}"
     def sh(self): return f"{self.row} (Is {self.row}) (shows 𝓤 H A {self.row})"
@@ -81,7 +81,7 @@ for p in P:
     if p in plains or p in reads: p["R"] = Row("struct" if p in reads else p["kind"], p["ty"]); p["row"] = p["R"].row
     elif p is not rec: p["row"] = p["ty"]
 a = S.get("answer"); sd = S["said"]
-def says(which, turn, r, lasts): return string.Template(sd.get(which, sd["work"])).substitute(turn=turn, r=r, **lasts)
+def says(which, turn, r, lasts): return string.Template(sd.get(which, sd["work"])).substitute(r=r, **lasts) + " ≡ " + turn
 SLOT = {"records": "SliceRefOf", "shr": "SliceRefOf", "mut": "SliceRefMutOf", "state": "RefMutOf", "view": "RefOf"}
 def slot(p, j=None):
     if p in plains: return f"plain (λ _. {p['row']})"
@@ -157,7 +157,6 @@ use denote.Slice.{sliceTy, sliceVal, ShrSlice, MutSlice, Room, finally, slice-va
 use denote.Steps.{only, opens, closes, looks, shuts, owned, peeks, facts, heard, nothing}
 use denote.Struct.Steps.{spelt}
 use denote.Struct.Laws as LL
-use denote.Enum.Laws as EL
 use denote.Triple.Statement.{Contract, Triple}
 use denote.Triple.Call.{calls-at}
 use denote.Triple.Clauses.{Ended, Clauses, Lasts, lasts, closing}
@@ -353,8 +352,7 @@ exI = lst([exF[n] for n in ex0])
 w(f"  exits : (u : Val) (y : Ans) → Known u y → ent 𝓤 (⋆ 𝓤 H A ({exI})) (Post ({RO.mach(yo)}))"); w("  exits u y e =")
 lastv = lambda p: fins("y", p) if p in muts else fst[p["name"]] if p in sts else "tt"
 w(f"      qed W ({exI}) ∵ suffices ! _ (ends-at 𝓤 H A ended stayed (clauses {TO} 𝓤) W bound ({RO.mach(yo)}) {yo} {tup([lastv(p) for p in P])} {tup(['e .len-' + p['name'] if p in muts else 'tt' for p in P])}) $")
-right = string.Template(sd.get("entry", sd["work"]).split(" ≡ ")[1]).substitute(turn="x")
-w(f"      says ! (e .said ∙ ap (λ (x : {sd['turn']}). {right}) (agree {lawargs})) $" if right != "x" else f"      says ! (e .said ∙ agree {lawargs}) $")
+w(f"      says ! (e .said ∙ agree {lawargs}) $")
 cx = Cx(ex0, "      ")
 for p in reads:
     n = p["name"]; cx.move(f"obs-{n}", f"bor-{n}"); v = f"(vptr b-{n} o-{n} ∷ [])"; cx.step(f"feqI ! (List Val) {v} {v} refl"); cx.step("fjoin3 !"); cx.c[0:2] = [f"O-{n}"]

@@ -1,5 +1,7 @@
 -- Modules that belong to no one function; the walks are made by tools/walks. Assumes nothing.
 pub mod Same
+pub mod Unique
+pub mod Apart
 pub mod PacketWalk
 pub mod ResultWalk
 pub mod StoreWalk

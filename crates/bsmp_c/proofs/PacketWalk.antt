@@ -39,24 +39,23 @@ use denote.Triple.Spec.{Meets, tripleOf}
 use denote.Triple.Walked.{says, Stays, stay-ref, stay-none, stay-none-slice, gave-slice, walkOf, AllGo, goes-ref, goes-none, goes-none-slice, goes-gave-slice, Walks, ends-at, walked, walk-meets}
 use denote.Exit.{yes}
 use Rattle.records.specs.Lending.{recordsOf}
-use Rattle.taken.specs.Taken.{takenOf}
-use Rattle.node.specs.Promise.{Lasting}
-use Rattle.telling.specs.Telling.{toldLeft, lastingTold, toldWith}
-use Rattle.telling.specs.declared.ToldDone.{ToldDone}
+use Rattle.columns.specs.Columns.{columnsOf}
+use Rattle.plain.specs.Calls.{PlainPacketLeft, plainPacketLeft}
+use Rattle.plain.specs.declared.PlainDone.{PlainDone}
 use Rattle.records.specs.declared.Records.{Records}
 use Rattle.bsmp.specs.declared.Variable.{Variable}
 use Rattle.records.specs.declared.Groups.{Groups}
-use Rattle.taken.proofs.Walk.{down, span}
-use Rattle.told.proofs.Told as M0
-use Rattle.told.proofs.Told.Laws as M0′
-use Rattle.telling.proofs.ToldDone as M1
-use Rattle.telling.proofs.ToldDone.Laws as M1′
+use Rattle.columns.proofs.Walk.{down, span}
+use Rattle.plain.proofs.PlainOutcome as M0
+use Rattle.plain.proofs.PlainOutcome.Laws as M0′
+use Rattle.plain.proofs.PlainDone as M1
+use Rattle.plain.proofs.PlainDone.Laws as M1′
 use Rattle.records.proofs.Records as M2
 use Rattle.records.proofs.Records.Laws as M2′
 use Rattle.bsmp.proofs.Variable as M3
 use Rattle.records.proofs.Groups as M4
 use Rattle.records.proofs.Groups.Laws as M4′
-use Rattle.taken.proofs.records_of as table-of
+use Rattle.columns.proofs.columns_of as table-of
 
 abbrev pub signature : Signature
 signature = record { lifetimes = 8; outlives = []; params = SliceRefOf (0 ∷ []) tt (plain (λ _. M3.the-row)) (λ _. tt) ∷ SliceRefOf (1 ∷ []) tt (plain (λ _. u32)) (λ _. tt) ∷ SliceRefOf (2 ∷ []) tt (plain (λ _. u8)) (λ _. tt) ∷ RefMutOf (3 ∷ []) tt (plain (λ _. M4.the-row)) (λ _. tt) ∷ plain (λ _. u8) ∷ plain (λ _. u8) ∷ plain (λ _. u64) ∷ SliceRefMutOf (4 ∷ []) tt (plain (λ _. u8)) (λ _. tt) ∷ SliceRefMutOf (5 ∷ []) tt (plain (λ _. u8)) (λ _. tt) ∷ SliceRefOf (6 ∷ []) tt (plain (λ _. u8)) (λ _. tt) ∷ SliceRefMutOf (7 ∷ []) tt (plain (λ _. u8)) (λ _. tt) ∷ []; result = plain (λ _. M0.the-row) }
@@ -94,17 +93,17 @@ abbrev stayed : Stays (ended .signature .params) (ended .kept)
 stayed = (stay-none-slice (0 ∷ []) tt (plain (λ _. M3.the-row)) yes, (stay-none-slice (1 ∷ []) tt (plain (λ _. u32)) yes, (stay-none-slice (2 ∷ []) tt (plain (λ _. u8)) yes, (stay-ref (3 ∷ []) tt (plain (λ _. M4.the-row)), (stay-none (λ _. u8) yes, (stay-none (λ _. u8) yes, (stay-none (λ _. u64) yes, (gave-slice (4 ∷ []) tt (plain (λ _. u8)), (gave-slice (5 ∷ []) tt (plain (λ _. u8)), (stay-none-slice (6 ∷ []) tt (plain (λ _. u8)) yes, (gave-slice (7 ∷ []) tt (plain (λ _. u8)), tt)))))))))))
 
 abbrev pub TurnOf : Type 0
-TurnOf = List Variable → List ℕ → List ℕ → Groups → ℕ → ℕ → ℕ → List ℕ → List ℕ → List ℕ → List ℕ → Lasting
+TurnOf = List Variable → List ℕ → List ℕ → Groups → ℕ → ℕ → ℕ → List ℕ → List ℕ → List ℕ → List ℕ → PlainPacketLeft
 
 -- what a call comes to by the records that the table says is what it comes to by the lent ones
 abbrev pub Agree : TurnOf → Type 0
-Agree turnOf = (variables : List Variable) (curves : List ℕ) (functions : List ℕ) (groups : Groups) (address : ℕ) (multicast : ℕ) (busy : ℕ) (values : List ℕ) (blocks : List ℕ) (request : List ℕ) (reply : List ℕ) → turnOf (recordsOf (takenOf variables)) curves functions groups address multicast busy values blocks request reply ≡ turnOf variables curves functions groups address multicast busy values blocks request reply
+Agree turnOf = (variables : List Variable) (curves : List ℕ) (functions : List ℕ) (groups : Groups) (address : ℕ) (multicast : ℕ) (busy : ℕ) (values : List ℕ) (blocks : List ℕ) (request : List ℕ) (reply : List ℕ) → turnOf (recordsOf (columnsOf variables)) curves functions groups address multicast busy values blocks request reply ≡ turnOf variables curves functions groups address multicast busy values blocks request reply
 
 abbrev pub clauses : TurnOf → {M : Type 1} (𝓤 : URA M) → Clauses 𝓤 ended
-clauses turnOf 𝓤 κs a = record { ghost = Unit {0}; requires = λ _. emp 𝓤; ensures = λ _ r e. fact 𝓤 (toldLeft (toldWith r (now (e .1 .1 .1 .0))) (now (e .1 .1 .1 .1 .1 .1 .1 .1 .1 .1 .0)) (now (e .1 .1 .1 .1 .1 .1 .1 .0)) (now (e .1 .1 .1 .1 .1 .1 .1 .1 .0)) ≡ lastingTold (turnOf (now (a .0)) (now (a .1 .0)) (now (a .1 .1 .0)) (now (a .1 .1 .1 .0)) (a .1 .1 .1 .1 .0) (a .1 .1 .1 .1 .1 .0) (a .1 .1 .1 .1 .1 .1 .0) (now (a .1 .1 .1 .1 .1 .1 .1 .0)) (now (a .1 .1 .1 .1 .1 .1 .1 .1 .0)) (now (a .1 .1 .1 .1 .1 .1 .1 .1 .1 .0)) (now (a .1 .1 .1 .1 .1 .1 .1 .1 .1 .1 .0)))) }
+clauses turnOf 𝓤 κs a = record { ghost = Unit {0}; requires = λ _. emp 𝓤; ensures = λ _ r e. fact 𝓤 (plainPacketLeft r (now (e .1 .1 .1 .0)) (now (e .1 .1 .1 .1 .1 .1 .1 .1 .1 .1 .0)) (now (e .1 .1 .1 .1 .1 .1 .1 .0)) (now (e .1 .1 .1 .1 .1 .1 .1 .1 .0)) ≡ turnOf (now (a .0)) (now (a .1 .0)) (now (a .1 .1 .0)) (now (a .1 .1 .1 .0)) (a .1 .1 .1 .1 .0) (a .1 .1 .1 .1 .1 .0) (a .1 .1 .1 .1 .1 .1 .0) (now (a .1 .1 .1 .1 .1 .1 .1 .0)) (now (a .1 .1 .1 .1 .1 .1 .1 .1 .0)) (now (a .1 .1 .1 .1 .1 .1 .1 .1 .1 .0)) (now (a .1 .1 .1 .1 .1 .1 .1 .1 .1 .1 .0))) }
 
 abbrev pub work-clauses : TurnOf → {M : Type 1} (𝓤 : URA M) → Clauses 𝓤 work-ended
-work-clauses turnOf 𝓤 κs a = record { ghost = Unit {0}; requires = λ _. emp 𝓤; ensures = λ _ r e. fact 𝓤 (toldLeft r (now (e .1 .1 .1 .1 .1 .1 .1 .1 .1 .1 .0)) (now (e .1 .1 .1 .1 .1 .1 .1 .0)) (now (e .1 .1 .1 .1 .1 .1 .1 .1 .0)) ≡ lastingTold (turnOf (recordsOf (a .0)) (now (a .1 .0)) (now (a .1 .1 .0)) (a .1 .1 .1 .0) (a .1 .1 .1 .1 .0) (a .1 .1 .1 .1 .1 .0) (a .1 .1 .1 .1 .1 .1 .0) (now (a .1 .1 .1 .1 .1 .1 .1 .0)) (now (a .1 .1 .1 .1 .1 .1 .1 .1 .0)) (now (a .1 .1 .1 .1 .1 .1 .1 .1 .1 .0)) (now (a .1 .1 .1 .1 .1 .1 .1 .1 .1 .1 .0)))) }
+work-clauses turnOf 𝓤 κs a = record { ghost = Unit {0}; requires = λ _. emp 𝓤; ensures = λ _ r e. fact 𝓤 (plainPacketLeft (r .outcome) (r .groups) (now (e .1 .1 .1 .1 .1 .1 .1 .1 .1 .1 .0)) (now (e .1 .1 .1 .1 .1 .1 .1 .0)) (now (e .1 .1 .1 .1 .1 .1 .1 .1 .0)) ≡ turnOf (recordsOf (a .0)) (now (a .1 .0)) (now (a .1 .1 .0)) (a .1 .1 .1 .0) (a .1 .1 .1 .1 .0) (a .1 .1 .1 .1 .1 .0) (a .1 .1 .1 .1 .1 .1 .0) (now (a .1 .1 .1 .1 .1 .1 .1 .0)) (now (a .1 .1 .1 .1 .1 .1 .1 .1 .0)) (now (a .1 .1 .1 .1 .1 .1 .1 .1 .1 .0)) (now (a .1 .1 .1 .1 .1 .1 .1 .1 .1 .1 .0))) }
 
 module _ {M : Type 1} (𝓤 : URA M) (H : Heap 𝓤) (A : Atoms 𝓤) where
   abbrev pub TableOf : (Memory → SProp 𝓤) → (Routine → Fun 𝓤) → Contract 𝓤
@@ -162,7 +161,7 @@ module _ (turnOf : TurnOf) (agree : Agree turnOf) (kt kc : Name) {M : Type 1} (�
 
   -- ---- the records in the slice, as numbers
   abbrev tbl : Records
-  tbl = takenOf (now variables)
+  tbl = columnsOf (now variables)
 
   abbrev IsT : Type 0
   IsT = Is M2.the-row tbl (LL.val M2.the-type M2′.the-laws tbl ∷ [])
@@ -183,7 +182,7 @@ module _ (turnOf : TurnOf) (agree : Agree turnOf) (kt kc : Name) {M : Type 1} (�
       check ! (ap only (LL.tells M2.the-type M2′.the-laws r (u ∷ []) is) ∙ ap (λ (t : Records). LL.val M2.the-type M2′.the-laws t) e, subst (λ (t : Records). Is M2.the-row t (LL.val M2.the-type M2′.the-laws t ∷ [])) e (subst (Is M2.the-row r) (LL.tells M2.the-type M2′.the-laws r (u ∷ []) is) is)) $ keep ! (0 ∷ []) $ done !))))
 
   -- ---- the work
-  abbrev turn : Lasting
+  abbrev turn : PlainPacketLeft
   turn = turnOf (recordsOf tbl) (now curves) (now functions) h-groups address multicast busy (now values) (now blocks) (now request) (now reply)
 
   abbrev to-work : Work 𝓤 H A turnOf .Ghost
@@ -196,12 +195,12 @@ module _ (turnOf : TurnOf) (agree : Agree turnOf) (kt kc : Name) {M : Type 1} (�
 
   -- what is had of the work: its answer, and the last lists
   abbrev Ans : Type 0
-  Ans = ToldDone × (List ℕ × (List ℕ × (List ℕ × (Unit {0}))))
+  Ans = PlainDone × (List ℕ × (List ℕ × (List ℕ × (Unit {0}))))
 
   pub record Known (u : Val) (y : Ans) : Type 0 where
     pub val : u ≡ LL.val M1.the-type M1′.the-laws (y .0)
     pub is : Is M1.the-row (y .0) (LL.val M1.the-type M1′.the-laws (y .0) ∷ [])
-    pub said : toldLeft (y .0) (y .1 .1 .1 .0) (y .1 .0) (y .1 .1 .0) ≡ lastingTold (turn)
+    pub said : plainPacketLeft ((y .0) .outcome) ((y .0) .groups) (y .1 .1 .1 .0) (y .1 .0) (y .1 .1 .0) ≡ turn
     pub len-values : length (y .1 .0) ≡ length (now values)
     pub len-blocks : length (y .1 .1 .0) ≡ length (now blocks)
     pub len-reply : length (y .1 .1 .1 .0) ≡ length (now reply)
@@ -212,23 +211,23 @@ module _ (turnOf : TurnOf) (agree : Agree turnOf) (kt kc : Name) {M : Type 1} (�
   told-work : (u : Val) → ent 𝓤 (Work 𝓤 H A turnOf .post to-work u) (H .⇛ (ex 𝓤 (λ (y : Ans). guard 𝓤 (Known u y) (mean 𝓤 H A (Had y)))))
   told-work u =
       qed W (raw (Work 𝓤 H A turnOf .post to-work u) ∷ []) ∵ updating ! $
-      use1 W (later (some (λ (r : ToldDone). ((‵ (flft κ-curves q-curves) ⊛ ‵ (flft κ-functions q-functions) ⊛ ‵ (flft κ-values q-values) ⊛ ‵ (flft κ-blocks q-blocks) ⊛ ‵ (flft κ-request q-request) ⊛ ‵ (flft κ-reply q-reply) ⊛ ‵ ftrue) ⊛ ‵ (M1.the-row .own r (u ∷ [])))
-      ⊛ some (λ (ws : Lasts work-ended (to-work .0 .0) (to-work .0 .3)). ‵ (lasts work-ended (to-work .0 .0) (to-work .0 .3) ws) ⊛ raw (fact 𝓤 (toldLeft r (ws .1 .1 .1 .1 .1 .1 .1 .1 .1 .1 .0) (ws .1 .1 .1 .1 .1 .1 .1 .0) (ws .1 .1 .1 .1 .1 .1 .1 .1 .0) ≡ lastingTold (turn))))))) (id⊢ 𝓤 _) $ await ! tt $ pick ! (λ r.
-      split ! $ move ! (1 ∷ []) $ pick ! (λ ws. split ! $ move ! (1 ∷ []) $ heard ! (toldLeft r (ws .1 .1 .1 .1 .1 .1 .1 .1 .1 .1 .0) (ws .1 .1 .1 .1 .1 .1 .1 .0) (ws .1 .1 .1 .1 .1 .1 .1 .1 .0) ≡ lastingTold (turn)) (λ e.
+      use1 W (later (some (λ (r : PlainDone). ((‵ (flft κ-curves q-curves) ⊛ ‵ (flft κ-functions q-functions) ⊛ ‵ (flft κ-values q-values) ⊛ ‵ (flft κ-blocks q-blocks) ⊛ ‵ (flft κ-request q-request) ⊛ ‵ (flft κ-reply q-reply) ⊛ ‵ ftrue) ⊛ ‵ (M1.the-row .own r (u ∷ [])))
+      ⊛ some (λ (ws : Lasts work-ended (to-work .0 .0) (to-work .0 .3)). ‵ (lasts work-ended (to-work .0 .0) (to-work .0 .3) ws) ⊛ raw (fact 𝓤 (plainPacketLeft (r .outcome) (r .groups) (ws .1 .1 .1 .1 .1 .1 .1 .1 .1 .1 .0) (ws .1 .1 .1 .1 .1 .1 .1 .0) (ws .1 .1 .1 .1 .1 .1 .1 .1 .0) ≡ turn)))))) (id⊢ 𝓤 _) $ await ! tt $ pick ! (λ r.
+      split ! $ move ! (1 ∷ []) $ pick ! (λ ws. split ! $ move ! (1 ∷ []) $ heard ! (plainPacketLeft (r .outcome) (r .groups) (ws .1 .1 .1 .1 .1 .1 .1 .1 .1 .1 .0) (ws .1 .1 .1 .1 .1 .1 .1 .0) (ws .1 .1 .1 .1 .1 .1 .1 .1 .0) ≡ turn) (λ e.
       fsplit ! $ drop ! $ fsplit ! $ drop ! $ fsplit ! $ drop ! $ fsplit ! $ drop ! $ fsplit ! $ drop ! $ fsplit ! $ drop ! $ fsplit ! $ drop ! $ fsplit ! $ fsplit ! $ move ! (1 ∷ []) $ feqL ! (λ len-values. move ! (1 ∷ []) $ fsplit ! $ fsplit ! $ move ! (1 ∷ []) $ feqL ! (λ len-blocks. move ! (1 ∷ []) $ fsplit ! $ drop ! $ fsplit ! $ fsplit ! $ move ! (1 ∷ []) $ feqL ! (λ len-reply. move ! (1 ∷ []) $ drop ! $ move ! (3 ∷ []) $ split ! $ move ! (1 ∷ []) $ facts ! M1.the-row (Is M1.the-row) (shows 𝓤 H A M1.the-row) r (u ∷ []) (λ is. split ! $ move ! (1 ∷ []) $ split ! $ move ! (1 ∷ []) $ split ! $ move ! (1 ∷ []) $ split ! $ move ! (1 ∷ []) $ split ! $ move ! (1 ∷ []) $ split ! $ at-once ! $ show ! (λ (y : Ans). guard 𝓤 (Known u y) (mean 𝓤 H A (Had y))) (r, (ws .1 .1 .1 .1 .1 .1 .1 .0, (ws .1 .1 .1 .1 .1 .1 .1 .1 .0, (ws .1 .1 .1 .1 .1 .1 .1 .1 .1 .1 .0, tt)))) $ check ! (record { val = ap only (LL.tells M1.the-type M1′.the-laws r (u ∷ []) is); is = subst (Is M1.the-row r) (LL.tells M1.the-type M1′.the-laws r (u ∷ []) is) is; said = e; len-values = len-values; len-blocks = len-blocks; len-reply = len-reply }) $ keep ! (6 ∷ 5 ∷ 4 ∷ 3 ∷ 2 ∷ 0 ∷ 9 ∷ 8 ∷ 7 ∷ []) $ done !)))))))
 
   -- what whoever holds the answer knows of its fields
-  groups-is : (d : ToldDone) → Is M1.the-row d (LL.val M1.the-type M1′.the-laws d ∷ []) → Is M4.the-row (d .groups) (LL.val M4.the-type M4′.the-laws (d .groups) ∷ [])
+  groups-is : (d : PlainDone) → Is M1.the-row d (LL.val M1.the-type M1′.the-laws d ∷ []) → Is M4.the-row (d .groups) (LL.val M4.the-type M4′.the-laws (d .groups) ∷ [])
   groups-is d is = LL.owed M1.the-type M1′.the-laws d _ is .1 .0
 
-  out-is : (d : ToldDone) → Is M1.the-row d (LL.val M1.the-type M1′.the-laws d ∷ []) → Is M0.the-row (d .told) (LL.val M0.the-type M0′.the-laws (d .told) ∷ [])
+  out-is : (d : PlainDone) → Is M1.the-row d (LL.val M1.the-type M1′.the-laws d ∷ []) → Is M0.the-row (d .outcome) (LL.val M0.the-type M0′.the-laws (d .outcome) ∷ [])
   out-is d is = LL.owed M1.the-type M1′.the-laws d _ is .0
 
-  exits : (u : Val) (y : Ans) → Known u y → ent 𝓤 (⋆ 𝓤 H A (‵ (Obs-groups (y .0 .groups)) ∷ ‵ Bor-groups ∷ ‵ (flft κ-groups q-groups) ∷ Had y ∷ (‵ O-curves ⊛ ‵ O-functions ⊛ ‵ O-request) ∷ ‵ (flft κ-variables q-variables) ∷ ‵ O-variables ∷ [])) (Post (LL.val M0.the-type M0′.the-laws (y .0 .told)))
+  exits : (u : Val) (y : Ans) → Known u y → ent 𝓤 (⋆ 𝓤 H A (‵ (Obs-groups (y .0 .groups)) ∷ ‵ Bor-groups ∷ ‵ (flft κ-groups q-groups) ∷ Had y ∷ (‵ O-curves ⊛ ‵ O-functions ⊛ ‵ O-request) ∷ ‵ (flft κ-variables q-variables) ∷ ‵ O-variables ∷ [])) (Post (LL.val M0.the-type M0′.the-laws (y .0 .outcome)))
   exits u y e =
-      qed W (‵ (Obs-groups (y .0 .groups)) ∷ ‵ Bor-groups ∷ ‵ (flft κ-groups q-groups) ∷ Had y ∷ (‵ O-curves ⊛ ‵ O-functions ⊛ ‵ O-request) ∷ ‵ (flft κ-variables q-variables) ∷ ‵ O-variables ∷ []) ∵ suffices ! _ (ends-at 𝓤 H A ended stayed (clauses turnOf 𝓤) W bound (LL.val M0.the-type M0′.the-laws (y .0 .told)) (y .0 .told) (tt, (tt, (tt, ((y .0 .groups), (tt, (tt, (tt, (y .1 .0, (y .1 .1 .0, (tt, (y .1 .1 .1 .0, tt))))))))))) (tt, (tt, (tt, (tt, (tt, (tt, (tt, (e .len-values, (e .len-blocks, (tt, (e .len-reply, tt)))))))))))) $
-      says ! (e .said ∙ ap (λ (x : Lasting). lastingTold (x)) (agree (now variables) (now curves) (now functions) h-groups address multicast busy (now values) (now blocks) (now request) (now reply))) $
-      feqI ! (List Val) (vptr b-groups o-groups ∷ []) (vptr b-groups o-groups ∷ []) refl $ fjoin3 ! $ move ! (2 ∷ []) $ split ! $ move ! (1 ∷ []) $ split ! $ move ! (1 ∷ []) $ split ! $ move ! (1 ∷ []) $ split ! $ move ! (1 ∷ []) $ split ! $ move ! (1 ∷ []) $ split ! $ move ! (1 ∷ []) $ split ! $ move ! (1 ∷ []) $ split ! $ move ! (11 ∷ []) $ split ! $ move ! (1 ∷ []) $ split ! $ owned ! u8 (Is u8) (uint-makes 𝓤 H A W w8) address _ is-address $ owned ! u8 (Is u8) (uint-makes 𝓤 H A W w8) multicast _ is-multicast $ owned ! u64 (Is u64) (uint-makes 𝓤 H A W w64) busy _ is-busy $ nothing ! $ move ! (18 ∷ 15 ∷ 14 ∷ 17 ∷ 13 ∷ 12 ∷ 11 ∷ 10 ∷ 0 ∷ []) $ group ! 9 $ frame ! $ nothing ! $ move ! (11 ∷ 6 ∷ 4 ∷ 10 ∷ 3 ∷ 2 ∷ 1 ∷ 9 ∷ 7 ∷ 5 ∷ 8 ∷ 0 ∷ []) $ group ! 12 $ owned ! M0.the-row (Is M0.the-row) (LL.makes M0.the-type M0′.the-plain 𝓤 H A) (y .0 .told) _ (out-is (y .0) (e .is)) $ keep ! (1 ∷ 0 ∷ []) $ done !
+      qed W (‵ (Obs-groups (y .0 .groups)) ∷ ‵ Bor-groups ∷ ‵ (flft κ-groups q-groups) ∷ Had y ∷ (‵ O-curves ⊛ ‵ O-functions ⊛ ‵ O-request) ∷ ‵ (flft κ-variables q-variables) ∷ ‵ O-variables ∷ []) ∵ suffices ! _ (ends-at 𝓤 H A ended stayed (clauses turnOf 𝓤) W bound (LL.val M0.the-type M0′.the-laws (y .0 .outcome)) (y .0 .outcome) (tt, (tt, (tt, ((y .0 .groups), (tt, (tt, (tt, (y .1 .0, (y .1 .1 .0, (tt, (y .1 .1 .1 .0, tt))))))))))) (tt, (tt, (tt, (tt, (tt, (tt, (tt, (e .len-values, (e .len-blocks, (tt, (e .len-reply, tt)))))))))))) $
+      says ! (e .said ∙ agree (now variables) (now curves) (now functions) h-groups address multicast busy (now values) (now blocks) (now request) (now reply)) $
+      feqI ! (List Val) (vptr b-groups o-groups ∷ []) (vptr b-groups o-groups ∷ []) refl $ fjoin3 ! $ move ! (2 ∷ []) $ split ! $ move ! (1 ∷ []) $ split ! $ move ! (1 ∷ []) $ split ! $ move ! (1 ∷ []) $ split ! $ move ! (1 ∷ []) $ split ! $ move ! (1 ∷ []) $ split ! $ move ! (1 ∷ []) $ split ! $ move ! (1 ∷ []) $ split ! $ move ! (11 ∷ []) $ split ! $ move ! (1 ∷ []) $ split ! $ owned ! u8 (Is u8) (uint-makes 𝓤 H A W w8) address _ is-address $ owned ! u8 (Is u8) (uint-makes 𝓤 H A W w8) multicast _ is-multicast $ owned ! u64 (Is u64) (uint-makes 𝓤 H A W w64) busy _ is-busy $ nothing ! $ move ! (18 ∷ 15 ∷ 14 ∷ 17 ∷ 13 ∷ 12 ∷ 11 ∷ 10 ∷ 0 ∷ []) $ group ! 9 $ frame ! $ nothing ! $ move ! (11 ∷ 6 ∷ 4 ∷ 10 ∷ 3 ∷ 2 ∷ 1 ∷ 9 ∷ 7 ∷ 5 ∷ 8 ∷ 0 ∷ []) $ group ! 12 $ owned ! M0.the-row (Is M0.the-row) (LL.makes M0.the-type M0′.the-plain 𝓤 H A) (y .0 .outcome) _ (out-is (y .0) (e .is)) $ keep ! (1 ∷ 0 ∷ []) $ done !
 
   module _ (C : Calls 𝓤 H) (Λ : Loops 𝓤 H) (fm : FmC 𝓤 H (W .laws) C) (known-table : Triple 𝓤 (C kt) (TableOf 𝓤 H A at-mem run)) (known-work : Triple 𝓤 (C kc) (Work 𝓤 H A turnOf)) where
     walk : Room M3.the-row (length (now variables)) → Room u32 (length (now curves)) → Room u8 (length (now functions)) → Room u8 (length (now values)) → Room u8 (length (now blocks)) → Room u8 (length (now request)) → Room u8 (length (now reply)) → ent 𝓤 (onEntry 𝓤 H A signature (bound .0 .0) (bound .0 .1) a at) (WpFn 𝓤 H C Λ (function kt kc) (slice variables ∷ slice curves ∷ slice functions ∷ vptr b-groups o-groups ∷ vint w8 address ∷ vint w8 multicast ∷ vint w64 busy ∷ slice values ∷ slice blocks ∷ slice request ∷ slice reply ∷ []) Post)
@@ -260,7 +259,7 @@ module _ (turnOf : TurnOf) (agree : Agree turnOf) (kt kc : Name) {M : Type 1} (�
         move ! (span 2 42) $ land ! (from ! (stop !)) (init ! 28 refl (subst (λ (w : Val). Holds (hasTy M1′.mir w) × WT w) (sym (e .val)) (LL.lawful M1.the-type M1′.the-laws 𝓤 H A W .typed (y .0) _ (e .is) .0))) $ rewrite ! 28 (λ (w : Val). ‵ (fat fullShare M1′.mir l-14 0 w)) (e .val) refl $
         -- [the locals; had; copies; cell-groups; open-groups; obs-groups; auth-groups; t-variables; O-variables]
         assigns ! (of-opd ! (load ! (from ! (fld ! refl (stop !))) (look-in ! 28 (sub ! 1 refl (whole !))))) (from ! (hop ! (look ! 8 refl) (stop !))) (store-raw ! 44 refl (LL.lawful M4.the-type M4′.the-laws 𝓤 H A W .typed (y .0 .groups) _ (groups-is (y .0) (e .is)) .0)) $
-        assigns ! (of-opd ! (load ! (from ! (fld ! refl (stop !))) (look-in ! 28 (sub ! 0 refl (whole !))))) (from ! (stop !)) (init ! 0 refl (LL.lawful M0.the-type M0′.the-laws 𝓤 H A W .typed (y .0 .told) _ (out-is (y .0) (e .is)) .0)) $
+        assigns ! (of-opd ! (load ! (from ! (fld ! refl (stop !))) (look-in ! 28 (sub ! 0 refl (whole !))))) (from ! (stop !)) (init ! 0 refl (LL.lawful M0.the-type M0′.the-laws 𝓤 H A W .typed (y .0 .outcome) _ (out-is (y .0) (e .is)) .0)) $
         move ! (44 ∷ 45 ∷ 46 ∷ 47 ∷ []) $ owned ! M4.the-row (Is M4.the-row) (LL.makes M4.the-type M4′.the-plain 𝓤 H A) (y .0 .groups) _ (groups-is (y .0) (e .is)) $ move ! (1 ∷ 0 ∷ []) $ closes ! tt M4.the-row (y .0 .groups) (LL.val M4.the-type M4′.the-laws (y .0 .groups) ∷ []) b-groups o-groups $ move ! (span 3 42) $
         -- [the locals; obs-groups; bor-groups; t-groups; had; copies; t-variables; O-variables]
         returns ! (look ! 0 refl) $ forget ! 0 refl $ forget ! 2 refl $ forget ! 4 refl $ forget ! 6 refl $ forget ! 8 refl $ forget ! 10 refl $ forget ! 12 refl $ forget ! 14 refl $ forget ! 16 refl $ forget ! 18 refl $ forget ! 20 refl $ forget ! 22 refl $ forget ! 24 refl $ forget ! 26 refl $ forget ! 28 refl $ forget ! 30 refl $ forget ! 32 refl $ forget ! 34 refl $ forget ! 36 refl $ forget ! 38 refl $ forget ! 40 refl $

@@ -36,19 +36,18 @@ use denote.Triple.Spec.{Meets, tripleOf}
 use denote.Triple.Walked.{says, Stays, stay-none, stay-none-slice, walkOf, AllGo, goes-none, goes-none-slice, Walks, ends-at, walked, walk-meets}
 use denote.Exit.{yes}
 use Rattle.records.specs.Lending.{recordsOf}
-use Rattle.taken.specs.Taken.{takenOf}
-use Rattle.bsmp.specs.Number.{Reading}
-use Rattle.told.specs.Told.{unsignedSays, readingTold}
-use Rattle.told.specs.declared.ToldUnsigned.{ToldUnsigned}
+use Rattle.columns.specs.Columns.{columnsOf}
+use Rattle.plain.specs.Numbers.{PlainReading, unsignedSays}
+use Rattle.plain.specs.declared.PlainUnsignedReading.{PlainUnsignedReading}
 use Rattle.records.specs.declared.Records.{Records}
 use Rattle.bsmp.specs.declared.Variable.{Variable}
-use Rattle.taken.proofs.Walk.{down, span}
-use Rattle.told.proofs.ToldUnsigned as M0
-use Rattle.told.proofs.ToldUnsigned.Laws as M0′
+use Rattle.columns.proofs.Walk.{down, span}
+use Rattle.plain.proofs.PlainUnsignedReading as M0
+use Rattle.plain.proofs.PlainUnsignedReading.Laws as M0′
 use Rattle.records.proofs.Records as M1
 use Rattle.records.proofs.Records.Laws as M1′
 use Rattle.bsmp.proofs.Variable as M2
-use Rattle.taken.proofs.records_of as table-of
+use Rattle.columns.proofs.columns_of as table-of
 
 abbrev pub signature : Signature
 signature = record { lifetimes = 2; outlives = []; params = SliceRefOf (0 ∷ []) tt (plain (λ _. M2.the-row)) (λ _. tt) ∷ plain (λ _. usize) ∷ SliceRefOf (1 ∷ []) tt (plain (λ _. u8)) (λ _. tt) ∷ []; result = plain (λ _. M0.the-row) }
@@ -77,17 +76,17 @@ abbrev stayed : Stays (ended .signature .params) (ended .kept)
 stayed = (stay-none-slice (0 ∷ []) tt (plain (λ _. M2.the-row)) yes, (stay-none (λ _. usize) yes, (stay-none-slice (1 ∷ []) tt (plain (λ _. u8)) yes, tt)))
 
 abbrev pub TurnOf : Type 0
-TurnOf = List Variable → ℕ → List ℕ → Reading
+TurnOf = List Variable → ℕ → List ℕ → PlainReading
 
 -- what a call comes to by the records that the table says is what it comes to by the lent ones
 abbrev pub Agree : TurnOf → Type 0
-Agree turnOf = (variables : List Variable) (number : ℕ) (bytes : List ℕ) → turnOf (recordsOf (takenOf variables)) number bytes ≡ turnOf variables number bytes
+Agree turnOf = (variables : List Variable) (number : ℕ) (bytes : List ℕ) → turnOf (recordsOf (columnsOf variables)) number bytes ≡ turnOf variables number bytes
 
 abbrev pub clauses : TurnOf → {M : Type 1} (𝓤 : URA M) → Clauses 𝓤 ended
-clauses turnOf 𝓤 κs a = record { ghost = Unit {0}; requires = λ _. emp 𝓤; ensures = λ _ r e. fact 𝓤 (unsignedSays r ≡ readingTold (turnOf (now (a .0)) (a .1 .0) (now (a .1 .1 .0)))) }
+clauses turnOf 𝓤 κs a = record { ghost = Unit {0}; requires = λ _. emp 𝓤; ensures = λ _ r e. fact 𝓤 (unsignedSays r ≡ turnOf (now (a .0)) (a .1 .0) (now (a .1 .1 .0))) }
 
 abbrev pub work-clauses : TurnOf → {M : Type 1} (𝓤 : URA M) → Clauses 𝓤 work-ended
-work-clauses turnOf 𝓤 κs a = record { ghost = Unit {0}; requires = λ _. emp 𝓤; ensures = λ _ r e. fact 𝓤 (unsignedSays r ≡ readingTold (turnOf (recordsOf (a .0)) (a .1 .0) (now (a .1 .1 .0)))) }
+work-clauses turnOf 𝓤 κs a = record { ghost = Unit {0}; requires = λ _. emp 𝓤; ensures = λ _ r e. fact 𝓤 (unsignedSays r ≡ turnOf (recordsOf (a .0)) (a .1 .0) (now (a .1 .1 .0))) }
 
 module _ {M : Type 1} (𝓤 : URA M) (H : Heap 𝓤) (A : Atoms 𝓤) where
   abbrev pub TableOf : (Memory → SProp 𝓤) → (Routine → Fun 𝓤) → Contract 𝓤
@@ -121,7 +120,7 @@ module _ (turnOf : TurnOf) (agree : Agree turnOf) (kt kc : Name) {M : Type 1} (�
 
   -- ---- the records in the slice, as numbers
   abbrev tbl : Records
-  tbl = takenOf (now variables)
+  tbl = columnsOf (now variables)
 
   abbrev IsT : Type 0
   IsT = Is M1.the-row tbl (LL.val M1.the-type M1′.the-laws tbl ∷ [])
@@ -142,7 +141,7 @@ module _ (turnOf : TurnOf) (agree : Agree turnOf) (kt kc : Name) {M : Type 1} (�
       check ! (ap only (LL.tells M1.the-type M1′.the-laws r (u ∷ []) is) ∙ ap (λ (t : Records). LL.val M1.the-type M1′.the-laws t) e, subst (λ (t : Records). Is M1.the-row t (LL.val M1.the-type M1′.the-laws t ∷ [])) e (subst (Is M1.the-row r) (LL.tells M1.the-type M1′.the-laws r (u ∷ []) is) is)) $ keep ! (0 ∷ []) $ done !))))
 
   -- ---- the work
-  abbrev turn : Reading
+  abbrev turn : PlainReading
   turn = turnOf (recordsOf tbl) number (now bytes)
 
   abbrev to-work : Work 𝓤 H A turnOf .Ghost
@@ -155,12 +154,12 @@ module _ (turnOf : TurnOf) (agree : Agree turnOf) (kt kc : Name) {M : Type 1} (�
 
   -- what is had of the work: its answer, and the last lists
   abbrev Ans : Type 0
-  Ans = ToldUnsigned × (Unit {0})
+  Ans = PlainUnsignedReading × (Unit {0})
 
   pub record Known (u : Val) (y : Ans) : Type 0 where
     pub val : u ≡ LL.val M0.the-type M0′.the-laws (y .0)
     pub is : Is M0.the-row (y .0) (LL.val M0.the-type M0′.the-laws (y .0) ∷ [])
-    pub said : unsignedSays (y .0) ≡ readingTold (turn)
+    pub said : unsignedSays (y .0) ≡ turn
 
   abbrev Had : Ans → Item 𝓤
   Had y = ‵ (flft κ-bytes q-bytes)
@@ -168,15 +167,15 @@ module _ (turnOf : TurnOf) (agree : Agree turnOf) (kt kc : Name) {M : Type 1} (�
   told-work : (u : Val) → ent 𝓤 (Work 𝓤 H A turnOf .post to-work u) (H .⇛ (ex 𝓤 (λ (y : Ans). guard 𝓤 (Known u y) (mean 𝓤 H A (Had y)))))
   told-work u =
       qed W (raw (Work 𝓤 H A turnOf .post to-work u) ∷ []) ∵ updating ! $
-      use1 W (later (some (λ (r : ToldUnsigned). ((‵ (flft κ-bytes q-bytes) ⊛ ‵ ftrue) ⊛ ‵ (M0.the-row .own r (u ∷ [])))
-      ⊛ some (λ (ws : Lasts work-ended (to-work .0 .0) (to-work .0 .3)). ‵ (lasts work-ended (to-work .0 .0) (to-work .0 .3) ws) ⊛ raw (fact 𝓤 (unsignedSays r ≡ readingTold (turn))))))) (id⊢ 𝓤 _) $ await ! tt $ pick ! (λ r.
-      split ! $ move ! (1 ∷ []) $ pick ! (λ ws. split ! $ move ! (1 ∷ []) $ heard ! (unsignedSays r ≡ readingTold (turn)) (λ e.
+      use1 W (later (some (λ (r : PlainUnsignedReading). ((‵ (flft κ-bytes q-bytes) ⊛ ‵ ftrue) ⊛ ‵ (M0.the-row .own r (u ∷ [])))
+      ⊛ some (λ (ws : Lasts work-ended (to-work .0 .0) (to-work .0 .3)). ‵ (lasts work-ended (to-work .0 .0) (to-work .0 .3) ws) ⊛ raw (fact 𝓤 (unsignedSays r ≡ turn)))))) (id⊢ 𝓤 _) $ await ! tt $ pick ! (λ r.
+      split ! $ move ! (1 ∷ []) $ pick ! (λ ws. split ! $ move ! (1 ∷ []) $ heard ! (unsignedSays r ≡ turn) (λ e.
       fsplit ! $ drop ! $ fsplit ! $ drop ! $ fsplit ! $ drop ! $ drop ! $ split ! $ move ! (1 ∷ []) $ facts ! M0.the-row (Is M0.the-row) (shows 𝓤 H A M0.the-row) r (u ∷ []) (λ is. split ! $ at-once ! $ show ! (λ (y : Ans). guard 𝓤 (Known u y) (mean 𝓤 H A (Had y))) (r, tt) $ check ! (record { val = ap only (LL.tells M0.the-type M0′.the-laws r (u ∷ []) is); is = subst (Is M0.the-row r) (LL.tells M0.the-type M0′.the-laws r (u ∷ []) is) is; said = e }) $ keep ! (0 ∷ []) $ done !))))
 
   exits : (u : Val) (y : Ans) → Known u y → ent 𝓤 (⋆ 𝓤 H A (Had y ∷ (‵ O-bytes) ∷ ‵ (flft κ-variables q-variables) ∷ ‵ O-variables ∷ [])) (Post (LL.val M0.the-type M0′.the-laws (y .0)))
   exits u y e =
       qed W (Had y ∷ (‵ O-bytes) ∷ ‵ (flft κ-variables q-variables) ∷ ‵ O-variables ∷ []) ∵ suffices ! _ (ends-at 𝓤 H A ended stayed (clauses turnOf 𝓤) W bound (LL.val M0.the-type M0′.the-laws (y .0)) (y .0) (tt, (tt, (tt, tt))) (tt, (tt, (tt, tt)))) $
-      says ! (e .said ∙ ap (λ (x : Reading). readingTold (x)) (agree (now variables) number (now bytes))) $
+      says ! (e .said ∙ agree (now variables) number (now bytes)) $
       owned ! usize (Is usize) (uint-makes 𝓤 H A W w64) number _ is-number $ nothing ! $ move ! (4 ∷ 2 ∷ 0 ∷ []) $ group ! 3 $ frame ! $ nothing ! $ move ! (3 ∷ 1 ∷ 2 ∷ 0 ∷ []) $ group ! 4 $ owned ! M0.the-row (Is M0.the-row) (LL.makes M0.the-type M0′.the-plain 𝓤 H A) (y .0) _ (e .is) $ keep ! (1 ∷ 0 ∷ []) $ done !
 
   module _ (C : Calls 𝓤 H) (Λ : Loops 𝓤 H) (fm : FmC 𝓤 H (W .laws) C) (known-table : Triple 𝓤 (C kt) (TableOf 𝓤 H A at-mem run)) (known-work : Triple 𝓤 (C kc) (Work 𝓤 H A turnOf)) where

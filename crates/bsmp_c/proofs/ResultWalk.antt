@@ -39,22 +39,21 @@ use denote.Triple.Spec.{Meets, tripleOf}
 use denote.Triple.Walked.{says, Stays, stay-none, stay-none-ref, stay-none-slice, gave-slice, walkOf, AllGo, goes-none, goes-none-ref, goes-none-slice, goes-gave-slice, Walks, ends-at, walked, walk-meets}
 use denote.Exit.{yes}
 use Rattle.records.specs.Lending.{recordsOf}
-use Rattle.taken.specs.Taken.{takenOf}
-use Rattle.results.specs.Results.{Replied}
-use Rattle.telling.specs.Telling.{toldReplied, repliedTold}
-use Rattle.told.specs.declared.Told.{Told}
+use Rattle.columns.specs.Columns.{columnsOf}
+use Rattle.plain.specs.Calls.{PlainResultLeft, plainResultLeft}
+use Rattle.plain.specs.declared.PlainOutcome.{PlainOutcome}
 use Rattle.records.specs.declared.Records.{Records}
 use Rattle.bsmp.specs.declared.Variable.{Variable}
 use Rattle.records.specs.declared.Groups.{Groups}
-use Rattle.taken.proofs.Walk.{down, span}
-use Rattle.told.proofs.Told as M0
-use Rattle.told.proofs.Told.Laws as M0′
+use Rattle.columns.proofs.Walk.{down, span}
+use Rattle.plain.proofs.PlainOutcome as M0
+use Rattle.plain.proofs.PlainOutcome.Laws as M0′
 use Rattle.records.proofs.Records as M1
 use Rattle.records.proofs.Records.Laws as M1′
 use Rattle.bsmp.proofs.Variable as M2
 use Rattle.records.proofs.Groups as M3
 use Rattle.records.proofs.Groups.Laws as M3′
-use Rattle.taken.proofs.records_of as table-of
+use Rattle.columns.proofs.columns_of as table-of
 
 abbrev pub signature : Signature
 signature = record { lifetimes = 8; outlives = []; params = SliceRefOf (0 ∷ []) tt (plain (λ _. M2.the-row)) (λ _. tt) ∷ SliceRefOf (1 ∷ []) tt (plain (λ _. u32)) (λ _. tt) ∷ SliceRefOf (2 ∷ []) tt (plain (λ _. u8)) (λ _. tt) ∷ RefOf (3 ∷ []) tt (plain (λ _. M3.the-row)) (λ _. tt) ∷ SliceRefOf (4 ∷ []) tt (plain (λ _. u8)) (λ _. tt) ∷ SliceRefOf (5 ∷ []) tt (plain (λ _. u8)) (λ _. tt) ∷ plain (λ _. usize) ∷ plain (λ _. Boolean) ∷ plain (λ _. Boolean) ∷ plain (λ _. u8) ∷ SliceRefOf (6 ∷ []) tt (plain (λ _. u8)) (λ _. tt) ∷ SliceRefMutOf (7 ∷ []) tt (plain (λ _. u8)) (λ _. tt) ∷ []; result = plain (λ _. M0.the-row) }
@@ -86,17 +85,17 @@ abbrev stayed : Stays (ended .signature .params) (ended .kept)
 stayed = (stay-none-slice (0 ∷ []) tt (plain (λ _. M2.the-row)) yes, (stay-none-slice (1 ∷ []) tt (plain (λ _. u32)) yes, (stay-none-slice (2 ∷ []) tt (plain (λ _. u8)) yes, (stay-none-ref (3 ∷ []) tt (plain (λ _. M3.the-row)) yes, (stay-none-slice (4 ∷ []) tt (plain (λ _. u8)) yes, (stay-none-slice (5 ∷ []) tt (plain (λ _. u8)) yes, (stay-none (λ _. usize) yes, (stay-none (λ _. Boolean) yes, (stay-none (λ _. Boolean) yes, (stay-none (λ _. u8) yes, (stay-none-slice (6 ∷ []) tt (plain (λ _. u8)) yes, (gave-slice (7 ∷ []) tt (plain (λ _. u8)), tt))))))))))))
 
 abbrev pub TurnOf : Type 0
-TurnOf = List Variable → List ℕ → List ℕ → Groups → List ℕ → List ℕ → ℕ → Bool → Bool → ℕ → List ℕ → List ℕ → Replied
+TurnOf = List Variable → List ℕ → List ℕ → Groups → List ℕ → List ℕ → ℕ → Bool → Bool → ℕ → List ℕ → List ℕ → PlainResultLeft
 
 -- what a call comes to by the records that the table says is what it comes to by the lent ones
 abbrev pub Agree : TurnOf → Type 0
-Agree turnOf = (variables : List Variable) (curves : List ℕ) (functions : List ℕ) (groups : Groups) (values : List ℕ) (blocks : List ℕ) (number : ℕ) (due : Bool) (failed : Bool) (error : ℕ) (output : List ℕ) (reply : List ℕ) → turnOf (recordsOf (takenOf variables)) curves functions groups values blocks number due failed error output reply ≡ turnOf variables curves functions groups values blocks number due failed error output reply
+Agree turnOf = (variables : List Variable) (curves : List ℕ) (functions : List ℕ) (groups : Groups) (values : List ℕ) (blocks : List ℕ) (number : ℕ) (due : Bool) (failed : Bool) (error : ℕ) (output : List ℕ) (reply : List ℕ) → turnOf (recordsOf (columnsOf variables)) curves functions groups values blocks number due failed error output reply ≡ turnOf variables curves functions groups values blocks number due failed error output reply
 
 abbrev pub clauses : TurnOf → {M : Type 1} (𝓤 : URA M) → Clauses 𝓤 ended
-clauses turnOf 𝓤 κs a = record { ghost = Unit {0}; requires = λ _. emp 𝓤; ensures = λ _ r e. fact 𝓤 (toldReplied r (now (e .1 .1 .1 .1 .1 .1 .1 .1 .1 .1 .1 .0)) ≡ repliedTold (turnOf (now (a .0)) (now (a .1 .0)) (now (a .1 .1 .0)) (now (a .1 .1 .1 .0)) (now (a .1 .1 .1 .1 .0)) (now (a .1 .1 .1 .1 .1 .0)) (a .1 .1 .1 .1 .1 .1 .0) (a .1 .1 .1 .1 .1 .1 .1 .0) (a .1 .1 .1 .1 .1 .1 .1 .1 .0) (a .1 .1 .1 .1 .1 .1 .1 .1 .1 .0) (now (a .1 .1 .1 .1 .1 .1 .1 .1 .1 .1 .0)) (now (a .1 .1 .1 .1 .1 .1 .1 .1 .1 .1 .1 .0)))) }
+clauses turnOf 𝓤 κs a = record { ghost = Unit {0}; requires = λ _. emp 𝓤; ensures = λ _ r e. fact 𝓤 (plainResultLeft r (now (e .1 .1 .1 .1 .1 .1 .1 .1 .1 .1 .1 .0)) ≡ turnOf (now (a .0)) (now (a .1 .0)) (now (a .1 .1 .0)) (now (a .1 .1 .1 .0)) (now (a .1 .1 .1 .1 .0)) (now (a .1 .1 .1 .1 .1 .0)) (a .1 .1 .1 .1 .1 .1 .0) (a .1 .1 .1 .1 .1 .1 .1 .0) (a .1 .1 .1 .1 .1 .1 .1 .1 .0) (a .1 .1 .1 .1 .1 .1 .1 .1 .1 .0) (now (a .1 .1 .1 .1 .1 .1 .1 .1 .1 .1 .0)) (now (a .1 .1 .1 .1 .1 .1 .1 .1 .1 .1 .1 .0))) }
 
 abbrev pub work-clauses : TurnOf → {M : Type 1} (𝓤 : URA M) → Clauses 𝓤 work-ended
-work-clauses turnOf 𝓤 κs a = record { ghost = Unit {0}; requires = λ _. emp 𝓤; ensures = λ _ r e. fact 𝓤 (toldReplied r (now (e .1 .1 .1 .1 .1 .1 .1 .1 .1 .1 .1 .0)) ≡ repliedTold (turnOf (recordsOf (a .0)) (now (a .1 .0)) (now (a .1 .1 .0)) (a .1 .1 .1 .0) (now (a .1 .1 .1 .1 .0)) (now (a .1 .1 .1 .1 .1 .0)) (a .1 .1 .1 .1 .1 .1 .0) (a .1 .1 .1 .1 .1 .1 .1 .0) (a .1 .1 .1 .1 .1 .1 .1 .1 .0) (a .1 .1 .1 .1 .1 .1 .1 .1 .1 .0) (now (a .1 .1 .1 .1 .1 .1 .1 .1 .1 .1 .0)) (now (a .1 .1 .1 .1 .1 .1 .1 .1 .1 .1 .1 .0)))) }
+work-clauses turnOf 𝓤 κs a = record { ghost = Unit {0}; requires = λ _. emp 𝓤; ensures = λ _ r e. fact 𝓤 (plainResultLeft r (now (e .1 .1 .1 .1 .1 .1 .1 .1 .1 .1 .1 .0)) ≡ turnOf (recordsOf (a .0)) (now (a .1 .0)) (now (a .1 .1 .0)) (a .1 .1 .1 .0) (now (a .1 .1 .1 .1 .0)) (now (a .1 .1 .1 .1 .1 .0)) (a .1 .1 .1 .1 .1 .1 .0) (a .1 .1 .1 .1 .1 .1 .1 .0) (a .1 .1 .1 .1 .1 .1 .1 .1 .0) (a .1 .1 .1 .1 .1 .1 .1 .1 .1 .0) (now (a .1 .1 .1 .1 .1 .1 .1 .1 .1 .1 .0)) (now (a .1 .1 .1 .1 .1 .1 .1 .1 .1 .1 .1 .0))) }
 
 module _ {M : Type 1} (𝓤 : URA M) (H : Heap 𝓤) (A : Atoms 𝓤) where
   abbrev pub TableOf : (Memory → SProp 𝓤) → (Routine → Fun 𝓤) → Contract 𝓤
@@ -154,7 +153,7 @@ module _ (turnOf : TurnOf) (agree : Agree turnOf) (kt kc : Name) {M : Type 1} (�
 
   -- ---- the records in the slice, as numbers
   abbrev tbl : Records
-  tbl = takenOf (now variables)
+  tbl = columnsOf (now variables)
 
   abbrev IsT : Type 0
   IsT = Is M1.the-row tbl (LL.val M1.the-type M1′.the-laws tbl ∷ [])
@@ -175,7 +174,7 @@ module _ (turnOf : TurnOf) (agree : Agree turnOf) (kt kc : Name) {M : Type 1} (�
       check ! (ap only (LL.tells M1.the-type M1′.the-laws r (u ∷ []) is) ∙ ap (λ (t : Records). LL.val M1.the-type M1′.the-laws t) e, subst (λ (t : Records). Is M1.the-row t (LL.val M1.the-type M1′.the-laws t ∷ [])) e (subst (Is M1.the-row r) (LL.tells M1.the-type M1′.the-laws r (u ∷ []) is) is)) $ keep ! (0 ∷ []) $ done !))))
 
   -- ---- the work
-  abbrev turn : Replied
+  abbrev turn : PlainResultLeft
   turn = turnOf (recordsOf tbl) (now curves) (now functions) h-groups (now values) (now blocks) number due failed error (now output) (now reply)
 
   abbrev to-work : Work 𝓤 H A turnOf .Ghost
@@ -188,12 +187,12 @@ module _ (turnOf : TurnOf) (agree : Agree turnOf) (kt kc : Name) {M : Type 1} (�
 
   -- what is had of the work: its answer, and the last lists
   abbrev Ans : Type 0
-  Ans = Told × (List ℕ × (Unit {0}))
+  Ans = PlainOutcome × (List ℕ × (Unit {0}))
 
   pub record Known (u : Val) (y : Ans) : Type 0 where
     pub val : u ≡ LL.val M0.the-type M0′.the-laws (y .0)
     pub is : Is M0.the-row (y .0) (LL.val M0.the-type M0′.the-laws (y .0) ∷ [])
-    pub said : toldReplied (y .0) (y .1 .0) ≡ repliedTold (turn)
+    pub said : plainResultLeft (y .0) (y .1 .0) ≡ turn
     pub len-reply : length (y .1 .0) ≡ length (now reply)
 
   abbrev Had : Ans → Item 𝓤
@@ -202,15 +201,15 @@ module _ (turnOf : TurnOf) (agree : Agree turnOf) (kt kc : Name) {M : Type 1} (�
   told-work : (u : Val) → ent 𝓤 (Work 𝓤 H A turnOf .post to-work u) (H .⇛ (ex 𝓤 (λ (y : Ans). guard 𝓤 (Known u y) (mean 𝓤 H A (Had y)))))
   told-work u =
       qed W (raw (Work 𝓤 H A turnOf .post to-work u) ∷ []) ∵ updating ! $
-      use1 W (later (some (λ (r : Told). ((‵ (flft κ-curves q-curves) ⊛ ‵ (flft κ-functions q-functions) ⊛ ‵ (flft κ-values q-values) ⊛ ‵ (flft κ-blocks q-blocks) ⊛ ‵ (flft κ-output q-output) ⊛ ‵ (flft κ-reply q-reply) ⊛ ‵ ftrue) ⊛ ‵ (M0.the-row .own r (u ∷ [])))
-      ⊛ some (λ (ws : Lasts work-ended (to-work .0 .0) (to-work .0 .3)). ‵ (lasts work-ended (to-work .0 .0) (to-work .0 .3) ws) ⊛ raw (fact 𝓤 (toldReplied r (ws .1 .1 .1 .1 .1 .1 .1 .1 .1 .1 .1 .0) ≡ repliedTold (turn))))))) (id⊢ 𝓤 _) $ await ! tt $ pick ! (λ r.
-      split ! $ move ! (1 ∷ []) $ pick ! (λ ws. split ! $ move ! (1 ∷ []) $ heard ! (toldReplied r (ws .1 .1 .1 .1 .1 .1 .1 .1 .1 .1 .1 .0) ≡ repliedTold (turn)) (λ e.
+      use1 W (later (some (λ (r : PlainOutcome). ((‵ (flft κ-curves q-curves) ⊛ ‵ (flft κ-functions q-functions) ⊛ ‵ (flft κ-values q-values) ⊛ ‵ (flft κ-blocks q-blocks) ⊛ ‵ (flft κ-output q-output) ⊛ ‵ (flft κ-reply q-reply) ⊛ ‵ ftrue) ⊛ ‵ (M0.the-row .own r (u ∷ [])))
+      ⊛ some (λ (ws : Lasts work-ended (to-work .0 .0) (to-work .0 .3)). ‵ (lasts work-ended (to-work .0 .0) (to-work .0 .3) ws) ⊛ raw (fact 𝓤 (plainResultLeft r (ws .1 .1 .1 .1 .1 .1 .1 .1 .1 .1 .1 .0) ≡ turn)))))) (id⊢ 𝓤 _) $ await ! tt $ pick ! (λ r.
+      split ! $ move ! (1 ∷ []) $ pick ! (λ ws. split ! $ move ! (1 ∷ []) $ heard ! (plainResultLeft r (ws .1 .1 .1 .1 .1 .1 .1 .1 .1 .1 .1 .0) ≡ turn) (λ e.
       fsplit ! $ drop ! $ fsplit ! $ drop ! $ fsplit ! $ drop ! $ fsplit ! $ drop ! $ fsplit ! $ drop ! $ fsplit ! $ drop ! $ fsplit ! $ drop ! $ fsplit ! $ drop ! $ fsplit ! $ drop ! $ fsplit ! $ drop ! $ fsplit ! $ drop ! $ fsplit ! $ fsplit ! $ move ! (1 ∷ []) $ feqL ! (λ len-reply. move ! (1 ∷ []) $ drop ! $ move ! (1 ∷ []) $ split ! $ move ! (1 ∷ []) $ facts ! M0.the-row (Is M0.the-row) (shows 𝓤 H A M0.the-row) r (u ∷ []) (λ is. split ! $ move ! (1 ∷ []) $ split ! $ move ! (1 ∷ []) $ split ! $ move ! (1 ∷ []) $ split ! $ move ! (1 ∷ []) $ split ! $ move ! (1 ∷ []) $ split ! $ at-once ! $ show ! (λ (y : Ans). guard 𝓤 (Known u y) (mean 𝓤 H A (Had y))) (r, (ws .1 .1 .1 .1 .1 .1 .1 .1 .1 .1 .1 .0, tt)) $ check ! (record { val = ap only (LL.tells M0.the-type M0′.the-laws r (u ∷ []) is); is = subst (Is M0.the-row r) (LL.tells M0.the-type M0′.the-laws r (u ∷ []) is) is; said = e; len-reply = len-reply }) $ keep ! (6 ∷ 5 ∷ 4 ∷ 3 ∷ 2 ∷ 0 ∷ 7 ∷ []) $ done !)))))
 
   exits : (u : Val) (y : Ans) → Known u y → ent 𝓤 (⋆ 𝓤 H A (‵ (Obs-groups h-groups) ∷ ‵ Bor-groups ∷ ‵ (flft κ-groups q-groups) ∷ Had y ∷ (‵ O-curves ⊛ ‵ O-functions ⊛ ‵ O-values ⊛ ‵ O-blocks ⊛ ‵ O-output) ∷ ‵ (flft κ-variables q-variables) ∷ ‵ O-variables ∷ [])) (Post (LL.val M0.the-type M0′.the-laws (y .0)))
   exits u y e =
       qed W (‵ (Obs-groups h-groups) ∷ ‵ Bor-groups ∷ ‵ (flft κ-groups q-groups) ∷ Had y ∷ (‵ O-curves ⊛ ‵ O-functions ⊛ ‵ O-values ⊛ ‵ O-blocks ⊛ ‵ O-output) ∷ ‵ (flft κ-variables q-variables) ∷ ‵ O-variables ∷ []) ∵ suffices ! _ (ends-at 𝓤 H A ended stayed (clauses turnOf 𝓤) W bound (LL.val M0.the-type M0′.the-laws (y .0)) (y .0) (tt, (tt, (tt, (tt, (tt, (tt, (tt, (tt, (tt, (tt, (tt, (y .1 .0, tt)))))))))))) (tt, (tt, (tt, (tt, (tt, (tt, (tt, (tt, (tt, (tt, (tt, (e .len-reply, tt))))))))))))) $
-      says ! (e .said ∙ ap (λ (x : Replied). repliedTold (x)) (agree (now variables) (now curves) (now functions) h-groups (now values) (now blocks) number due failed error (now output) (now reply))) $
+      says ! (e .said ∙ agree (now variables) (now curves) (now functions) h-groups (now values) (now blocks) number due failed error (now output) (now reply)) $
       feqI ! (List Val) (vptr b-groups o-groups ∷ []) (vptr b-groups o-groups ∷ []) refl $ fjoin3 ! $ move ! (2 ∷ []) $ split ! $ move ! (1 ∷ []) $ split ! $ move ! (1 ∷ []) $ split ! $ move ! (1 ∷ []) $ split ! $ move ! (1 ∷ []) $ split ! $ move ! (1 ∷ []) $ split ! $ move ! (9 ∷ []) $ split ! $ move ! (1 ∷ []) $ split ! $ move ! (1 ∷ []) $ split ! $ move ! (1 ∷ []) $ split ! $ owned ! usize (Is usize) (uint-makes 𝓤 H A W w64) number _ is-number $ owned ! Boolean (Is Boolean) (bool-makes 𝓤 H A W) due _ is-due $ owned ! Boolean (Is Boolean) (bool-makes 𝓤 H A W) failed _ is-failed $ owned ! u8 (Is u8) (uint-makes 𝓤 H A W w8) error _ is-error $ nothing ! $ move ! (19 ∷ 16 ∷ 15 ∷ 18 ∷ 14 ∷ 13 ∷ 12 ∷ 10 ∷ 0 ∷ []) $ group ! 9 $ frame ! $ nothing ! $ move ! (12 ∷ 9 ∷ 8 ∷ 11 ∷ 7 ∷ 5 ∷ 4 ∷ 3 ∷ 2 ∷ 1 ∷ 6 ∷ 10 ∷ 0 ∷ []) $ group ! 13 $ owned ! M0.the-row (Is M0.the-row) (LL.makes M0.the-type M0′.the-plain 𝓤 H A) (y .0) _ (e .is) $ keep ! (1 ∷ 0 ∷ []) $ done !
 
   module _ (C : Calls 𝓤 H) (Λ : Loops 𝓤 H) (fm : FmC 𝓤 H (W .laws) C) (known-table : Triple 𝓤 (C kt) (TableOf 𝓤 H A at-mem run)) (known-work : Triple 𝓤 (C kc) (Work 𝓤 H A turnOf)) where

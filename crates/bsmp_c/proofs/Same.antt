@@ -1,34 +1,114 @@
--- What a call from C comes to by the taken records is what it comes to by the lent ones. Assumes nothing.
-use mathlib.Core.Path.{_≡_}
-use mathlib.Core.Bool.{Bool}
+-- What a call comes to by the records that the columns say is what it comes to by the lent ones, however many. Assumes nothing.
+use mathlib.Core.Path.{_≡_, refl, sym, ap, _∙_}
+use mathlib.Core.Bool.{Bool, true, false, not}
 use mathlib.Core.List.{List}
-use Prim.Native.Nat.{ℕ}
+use Prim.Native.Nat.{ℕ, _<_}
+use native.Mathlib.Omega.{arith}
 use lib.IntN.{ℤ}
-use Rattle.bsmp.specs.Board.{variable, function}
+use lib.ListN.{length}
+use Rattle.bsmp.specs.Board.{layout, blockSizes, usable, usableVariables, variable}
+use Rattle.bsmp.specs.Packet.{Result, refuse, packet, functionResult, boardStore}
+use Rattle.bsmp.specs.Number.{Reading, Written, reading, writing}
 use Rattle.bsmp.specs.declared.Variable.{Variable}
-use Rattle.records.specs.Lending.{recordsOf}
-use Rattle.records.specs.declared.Groups.{Groups}
-use Rattle.taken.specs.Taken.{takenOf}
-use Rattle.calls.proofs.Same.{result-same, store-same, signed-same, unsigned-same, signed-bytes-same, unsigned-bytes-same}
-use Rattle.told.specs.Told.{ranFrom}
-use Rattle.telling.specs.Comes.{resultFrom, storeFrom, signedFrom, unsignedFrom, signedBytesFrom, unsignedBytesFrom}
+use Rattle.bsmp.specs.declared.Refusal.the-variants.{BoardUnusable}
+use Rattle.bsmp.specs.declared.Outcome.the-variants as O
+use Rattle.bsmp.proofs.Chain.{first-stop}
+use Rattle.bsmp.proofs.Store.{join-cut}
+use Rattle.records.specs.Lending.{recordsOf, groupsOf}
+use Rattle.records.proofs.Sound.{usable-sound, variables-most}
+use Rattle.wire.specs.Opening.{placed}
+use Rattle.node.specs.Promise.{tableWith, lasting}
+use Rattle.results.specs.Results.{resultLeft, resultLeftOf, storeLeft, storeLeftOf}
+use Rattle.results.specs.declared.Stored.the-variants as S
+use Rattle.readings.specs.Answers.{writingLeftOf}
+use Rattle.columns.specs.Columns.{columnsOf}
+use Rattle.columns.proofs.Columns.{columns-same}
+use Rattle.plain.specs.Lending.{Lending, tableIn, lentIn, heldIn}
+use Rattle.plain.specs.Numbers.{plainOutcomeOf, plainReadingOf}
+use Rattle.plain.specs.Calls.{PlainPacketLeft, plainPacketLeft, plainPacketLeftOf, packetOf, PlainResultLeft, plainResultLeftOf, resultOf, PlainBytesLeft, plainStoreLeftOf, plainWritingLeftOf, storeOf, writingOf, readingOf}
 
-pub result-from-same : (vs : List Variable) (cs fs : List ℕ) (g : Groups) (values blocks : List ℕ) (f : ℕ) (due failed : Bool) (error : ℕ) (output reply : List ℕ)
-    → resultFrom (recordsOf (takenOf vs)) cs fs g values blocks f due failed error output reply ≡ resultFrom vs cs fs g values blocks f due failed error output reply
-result-from-same vs cs fs g values blocks f due failed error output reply = result-same vs cs fs g values blocks (function f) due (ranFrom failed error) output reply
+-- the same with other variable records
+abbrev pub withVariables : List Variable → Lending → Lending
+withVariables vs x = record { variables = vs; curves = x .curves; functions = x .functions; groups = x .groups; values = x .values; blocks = x .blocks }
 
-pub store-from-same : (vs : List Variable) (cs fs : List ℕ) (g : Groups) (values blocks : List ℕ) (i : ℕ) (bytes : List ℕ)
-    → storeFrom (recordsOf (takenOf vs)) cs fs g values blocks i bytes ≡ storeFrom vs cs fs g values blocks i bytes
-store-from-same vs cs fs g values blocks i bytes = store-same vs cs fs g values blocks (variable i) bytes
+abbrev pub byColumns : Lending → Lending
+byColumns x = withVariables (recordsOf (columnsOf (x .variables))) x
 
-pub signed-from-same : (vs : List Variable) (i : ℕ) (bytes : List ℕ) → signedFrom (recordsOf (takenOf vs)) i bytes ≡ signedFrom vs i bytes
-signed-from-same vs i bytes = signed-same vs (variable i) bytes
+-- more than 64 records break a rule
+broken : (b : Bool) → (b ≡ true → ⊥) → not b ≡ true
+broken true h = absurd (h refl)
+broken false h = refl
 
-pub unsigned-from-same : (vs : List Variable) (i : ℕ) (bytes : List ℕ) → unsignedFrom (recordsOf (takenOf vs)) i bytes ≡ unsignedFrom vs i bytes
-unsigned-from-same vs i bytes = unsigned-same vs (variable i) bytes
+long-variables : (vs : List Variable) → 64 < length vs → not (usableVariables vs) ≡ true
+long-variables vs h = broken (usableVariables vs) (λ e. omega (arith, variables-most vs e))
 
-pub signed-bytes-from-same : (vs : List Variable) (i : ℕ) (z : ℤ) (buffer : List ℕ) → signedBytesFrom (recordsOf (takenOf vs)) i z buffer ≡ signedBytesFrom vs i z buffer
-signed-bytes-from-same vs i z buffer = signed-bytes-same vs (variable i) z buffer
+long-board : (x : Lending) → 64 < length (x .variables) → not (usable (tableIn x) (heldIn x)) ≡ true
+long-board x h = broken (usable (tableIn x) (heldIn x)) (λ e. omega (arith, variables-most (x .variables) (usable-sound (tableIn x) (lentIn x) e .variables)))
 
-pub unsigned-bytes-from-same : (vs : List Variable) (i : ℕ) (n : ℕ) (buffer : List ℕ) → unsignedBytesFrom (recordsOf (takenOf vs)) i n buffer ≡ unsignedBytesFrom vs i n buffer
-unsigned-bytes-from-same vs i n buffer = unsigned-bytes-same vs (variable i) n buffer
+-- so a call on more of them is refused, and leaves all as it was
+module _ (x : Lending) (own multicast busy : ℕ) (request reply : List ℕ) where
+  abbrev untouched : PlainPacketLeft
+  untouched =
+      plainPacketLeft (plainOutcomeOf (O.Refused BoardUnusable)) (tableWith (groupsOf (x .groups)) (x .groups)) reply (x .values) (x .blocks)
+
+  module _ (us : List Variable) (h : 64 < length us) where
+    abbrev y : Lending
+    y = withVariables us x
+
+    stops : packet (tableIn y) (placed own multicast) busy (length reply) request (heldIn y) ≡ refuse (heldIn y) BoardUnusable
+    unfolding packet
+    stops = sym (first-stop _ _ _ _ _ _ _ (long-board y h) refl)
+
+    long-packet : packetOf y own multicast busy request reply ≡ untouched
+    long-packet =
+        let values = join-cut (layout (tableIn y) .sizes) (x .values) in
+        let blocks = join-cut (blockSizes (layout (tableIn y) .curves)) (x .blocks) in
+        ap (λ z. plainPacketLeftOf (lasting z reply (x .groups))) stops
+        ∙ (λ i. plainPacketLeft (plainOutcomeOf (O.Refused BoardUnusable)) (tableWith (groupsOf (x .groups)) (x .groups)) reply (values i) (blocks i))
+
+  pub packet-same : packetOf (byColumns x) own multicast busy request reply ≡ packetOf x own multicast busy request reply
+  packet-same = columns-same (λ us. packetOf (withVariables us x) own multicast busy request reply) untouched long-packet (x .variables)
+
+pub result-same : (x : Lending) (f : ℕ) (due failed : Bool) (error : ℕ) (output reply : List ℕ)
+    → resultOf (byColumns x) f due failed error output reply ≡ resultOf x f due failed error output reply
+unfolding functionResult
+result-same x f due failed error output reply =
+    columns-same (λ us. resultOf (withVariables us x) f due failed error output reply) refused long (x .variables)
+  where
+    refused : PlainResultLeft
+    refused = plainResultLeftOf (resultLeft (O.Refused BoardUnusable) reply)
+
+    long : (us : List Variable) → 64 < length us → resultOf (withVariables us x) f due failed error output reply ≡ refused
+    long us h =
+        sym (ap (λ (y : Result). plainResultLeftOf (resultLeftOf (y .ending) reply)) (first-stop _ _ _ _ _ _ _ (long-board (withVariables us x) h) refl))
+
+pub store-same : (x : Lending) (i : ℕ) (bytes : List ℕ) → storeOf (byColumns x) i bytes ≡ storeOf x i bytes
+unfolding boardStore
+store-same x i bytes = columns-same (λ us. storeOf (withVariables us x) i bytes) (refused (x .values)) long (x .variables)
+  where
+    refused : List ℕ → PlainBytesLeft
+    refused values = plainStoreLeftOf (storeLeft (S.Refused BoardUnusable) values)
+
+    long : (us : List Variable) → 64 < length us → storeOf (withVariables us x) i bytes ≡ refused (x .values)
+    long us h =
+        sym (ap (λ (y : Result). plainStoreLeftOf (storeLeftOf y)) (first-stop _ _ _ _ _ _ _ (long-board (withVariables us x) h) refl))
+        ∙ ap refused (join-cut (layout (tableIn (withVariables us x)) .sizes) (x .values))
+
+pub reading-same : (vs : List Variable) (i : ℕ) (signed : Bool) (bytes : List ℕ)
+    → readingOf (recordsOf (columnsOf vs)) i signed bytes ≡ readingOf vs i signed bytes
+unfolding reading
+reading-same vs i signed bytes = columns-same (λ us. readingOf us i signed bytes) (plainReadingOf (Reading.refused BoardUnusable)) long vs
+  where
+    long : (us : List Variable) → 64 < length us → readingOf us i signed bytes ≡ plainReadingOf (Reading.refused BoardUnusable)
+    long us h = sym (ap plainReadingOf (first-stop _ _ _ _ _ _ _ (long-variables us h) refl))
+
+pub writing-same : (vs : List Variable) (i : ℕ) (signed : Bool) (z : ℤ) (buffer : List ℕ)
+    → writingOf (recordsOf (columnsOf vs)) i signed z buffer ≡ writingOf vs i signed z buffer
+unfolding writing
+writing-same vs i signed z buffer = columns-same (λ us. writingOf us i signed z buffer) (left (Written.refused BoardUnusable)) long vs
+  where
+    left : Written → PlainBytesLeft
+    left w = plainWritingLeftOf (writingLeftOf w buffer)
+
+    long : (us : List Variable) → 64 < length us → writingOf us i signed z buffer ≡ left (Written.refused BoardUnusable)
+    long us h = sym (ap left (first-stop _ _ _ _ _ _ _ (long-variables us h) refl))

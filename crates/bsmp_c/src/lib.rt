@@ -1,14 +1,15 @@
-// The C face: every entry on numbers, slices and plain structs, each thin over the work that tells its ending in numbers.
+// The C face: every entry on numbers, slices and plain structs, each thin over its work in plain numbers.
 use bsmp::Variable;
+use plain::PlainOutcome;
+use plain::PlainSignedReading;
+use plain::PlainUnsignedReading;
 use records::Groups;
-use told::Told;
-use told::ToldSigned;
-use told::ToldUnsigned;
 ghost use mathlib.Core.Path.{_≡_};
-ghost use Rattle.calls.specs.Comes.{packetOf};
-ghost use Rattle.told.specs.Told.{readingTold, signedSays, unsignedSays};
-ghost use Rattle.telling.specs.Telling.{toldLeft, lastingTold, toldWith, toldReplied, repliedTold, numbered, keptTold, wroteTold};
-ghost use Rattle.telling.specs.Comes.{resultFrom, storeFrom, signedFrom, unsignedFrom, signedBytesFrom, unsignedBytesFrom};
+ghost use mathlib.Core.Bool.{true, false};
+ghost use lib.IntN.{pos};
+ghost use Rattle.plain.specs.Lending.{lending};
+ghost use Rattle.plain.specs.Numbers.{signedSays, unsignedSays};
+ghost use Rattle.plain.specs.Calls.{plainPacketLeft, packetOf, plainResultLeft, resultOf, plainBytesLeft, storeOf, writingOf, readingOf};
 
 #[no_mangle]
 pub extern "C" fn bsmp_packet(
@@ -23,13 +24,15 @@ pub extern "C" fn bsmp_packet(
     blocks: &mut [u8],
     request: &[u8],
     reply: &mut [u8],
-) -> Told
-    ensures { λ r. ⌜ toldLeft (toldWith r (now (groups .exit))) (now (reply .exit)) (now (values .exit)) (now (blocks .exit))
-        ≡ lastingTold (packetOf (now (variables .entry)) (now (curves .entry)) (now (functions .entry)) (now (groups .entry)) own multicast busy (now (values .entry)) (now (blocks .entry)) (now (request .entry)) (now (reply .entry))) ⌝ }
+) -> PlainOutcome
+    ensures { λ r. let board = lending (now (variables .entry)) (now (curves .entry)) (now (functions .entry))
+        (now (groups .entry)) (now (values .entry)) (now (blocks .entry)) in
+        ⌜ plainPacketLeft r (now (groups .exit)) (now (reply .exit)) (now (values .exit)) (now (blocks .exit))
+        ≡ packetOf board own multicast busy (now (request .entry)) (now (reply .entry)) ⌝ }
 {
-    let records = taken::records_of(variables);
+    let records = columns::columns_of(variables);
     let made = *groups;
-    let done = telling::packet_told(
+    let done = plain::packet(
         records,
         curves,
         functions,
@@ -43,7 +46,7 @@ pub extern "C" fn bsmp_packet(
         reply,
     );
     *groups = done.groups;
-    done.told
+    done.outcome
 }
 
 #[no_mangle]
@@ -60,13 +63,14 @@ pub extern "C" fn bsmp_function_result(
     error: u8,
     output: &[u8],
     reply: &mut [u8],
-) -> Told
-    ensures { λ r. ⌜ toldReplied r (now (reply .exit))
-        ≡ repliedTold (resultFrom (now (variables .entry)) (now (curves .entry)) (now (functions .entry)) (now (groups .entry)) (now (values .entry)) (now (blocks .entry)) function due failed error (now (output .entry)) (now (reply .entry))) ⌝ }
+) -> PlainOutcome
+    ensures { λ r. let board = lending (now (variables .entry)) (now (curves .entry)) (now (functions .entry))
+        (now (groups .entry)) (now (values .entry)) (now (blocks .entry)) in
+        ⌜ plainResultLeft r (now (reply .exit)) ≡ resultOf board function due failed error (now (output .entry)) (now (reply .entry)) ⌝ }
 {
-    let records = taken::records_of(variables);
+    let records = columns::columns_of(variables);
     let made = *groups;
-    telling::result_told(
+    plain::function_result(
         records,
         curves,
         functions,
@@ -93,12 +97,13 @@ pub extern "C" fn bsmp_board_store(
     variable: usize,
     bytes: &[u8],
 ) -> u8
-    ensures { λ r. ⌜ numbered r (now (values .exit))
-        ≡ keptTold (storeFrom (now (variables .entry)) (now (curves .entry)) (now (functions .entry)) (now (groups .entry)) (now (values .entry)) (now (blocks .entry)) variable (now (bytes .entry))) ⌝ }
+    ensures { λ r. let board = lending (now (variables .entry)) (now (curves .entry)) (now (functions .entry))
+        (now (groups .entry)) (now (values .entry)) (now (blocks .entry)) in
+        ⌜ plainBytesLeft r (now (values .exit)) ≡ storeOf board variable (now (bytes .entry)) ⌝ }
 {
-    let records = taken::records_of(variables);
+    let records = columns::columns_of(variables);
     let made = *groups;
-    telling::store_told(
+    plain::board_store(
         records,
         curves,
         functions,
@@ -115,11 +120,11 @@ pub extern "C" fn bsmp_read_signed(
     variables: &[Variable],
     variable: usize,
     bytes: &[u8],
-) -> ToldSigned
-    ensures { λ r. ⌜ signedSays r ≡ readingTold (signedFrom (now (variables .entry)) variable (now (bytes .entry))) ⌝ }
+) -> PlainSignedReading
+    ensures { λ r. ⌜ signedSays r ≡ readingOf (now (variables .entry)) variable true (now (bytes .entry)) ⌝ }
 {
-    let records = taken::records_of(variables);
-    telling::read_signed_told(records, variable, bytes)
+    let records = columns::columns_of(variables);
+    plain::read_signed(records, variable, bytes)
 }
 
 #[no_mangle]
@@ -127,11 +132,11 @@ pub extern "C" fn bsmp_read_unsigned(
     variables: &[Variable],
     variable: usize,
     bytes: &[u8],
-) -> ToldUnsigned
-    ensures { λ r. ⌜ unsignedSays r ≡ readingTold (unsignedFrom (now (variables .entry)) variable (now (bytes .entry))) ⌝ }
+) -> PlainUnsignedReading
+    ensures { λ r. ⌜ unsignedSays r ≡ readingOf (now (variables .entry)) variable false (now (bytes .entry)) ⌝ }
 {
-    let records = taken::records_of(variables);
-    telling::read_unsigned_told(records, variable, bytes)
+    let records = columns::columns_of(variables);
+    plain::read_unsigned(records, variable, bytes)
 }
 
 #[no_mangle]
@@ -141,10 +146,10 @@ pub extern "C" fn bsmp_write_signed(
     number: i64,
     buffer: &mut [u8],
 ) -> u8
-    ensures { λ r. ⌜ numbered r (now (buffer .exit)) ≡ wroteTold (signedBytesFrom (now (variables .entry)) variable number (now (buffer .entry))) ⌝ }
+    ensures { λ r. ⌜ plainBytesLeft r (now (buffer .exit)) ≡ writingOf (now (variables .entry)) variable true number (now (buffer .entry)) ⌝ }
 {
-    let records = taken::records_of(variables);
-    telling::write_signed_told(records, variable, number, buffer)
+    let records = columns::columns_of(variables);
+    plain::write_signed(records, variable, number, buffer)
 }
 
 #[no_mangle]
@@ -154,8 +159,8 @@ pub extern "C" fn bsmp_write_unsigned(
     number: u64,
     buffer: &mut [u8],
 ) -> u8
-    ensures { λ r. ⌜ numbered r (now (buffer .exit)) ≡ wroteTold (unsignedBytesFrom (now (variables .entry)) variable number (now (buffer .entry))) ⌝ }
+    ensures { λ r. ⌜ plainBytesLeft r (now (buffer .exit)) ≡ writingOf (now (variables .entry)) variable false (pos number) (now (buffer .entry)) ⌝ }
 {
-    let records = taken::records_of(variables);
-    telling::write_unsigned_told(records, variable, number, buffer)
+    let records = columns::columns_of(variables);
+    plain::write_unsigned(records, variable, number, buffer)
 }

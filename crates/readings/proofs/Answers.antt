@@ -12,7 +12,7 @@ use Rattle.bsmp.specs.declared.VariableNumber.{VariableNumber}
 use Rattle.bsmp.specs.declared.Variable.{Variable}
 use Rattle.bsmp.specs.declared.Refusal.{Refusal}
 use Rattle.bsmp.specs.declared.Refusal.the-variants.{DoesNotFit}
-use Rattle.readings.specs.Answers.{judgedOf, wrote, writes}
+use Rattle.readings.specs.Answers.{judgedOf, writingLeft, writingLeftOf}
 use Rattle.readings.specs.declared.Judged.{Judged}
 use Rattle.readings.specs.declared.Judged.the-variants.{Good, Refused}
 use Rattle.readings.specs.declared.Writing.the-variants as W
@@ -32,9 +32,9 @@ module _ (vs : List Variable) (i : VariableNumber) (s : Bool) (bs : List ℕ) (j
 
 -- number to bytes
 module _ (vs : List Variable) (i : VariableNumber) (s : Bool) (z : ℤ) (b : List ℕ) (j : Judged) (e : j ≡ judgedOf vs i s (length b)) where
-  pub write-refused : (x : Refusal) → j ≡ Refused x → wrote (W.Refused x) b ≡ writes (writing vs i s z (length b)) b
+  pub write-refused : (x : Refusal) → j ≡ Refused x → writingLeft (W.Refused x) b ≡ writingLeftOf (writing vs i s z (length b)) b
   unfolding writing
-  write-refused x h = ap (λ (y : Written). writes y b) (refused-first vs i s (length b) j e Written.refused _ x h)
+  write-refused x h = ap (λ (y : Written). writingLeftOf y b) (refused-first vs i s (length b) j e Written.refused _ x h)
 
   -- w is what the test of the range told of y, the number as the machine has it
   module _ (big w : Bool) (y : ℤ) (h : j ≡ Good big) (q : w ≡ inRange s (length b) y) (o : y ≡ z) where
@@ -45,11 +45,11 @@ module _ (vs : List Variable) (i : VariableNumber) (s : Bool) (z : ℤ) (b : Lis
     unfolding writing
     left = good-first vs i s (length b) j e big h Written.refused _
 
-    pub write-outside : not w ≡ true → wrote (W.Refused DoesNotFit) b ≡ writes (writing vs i s z (length b)) b
+    pub write-outside : not w ≡ true → writingLeft (W.Refused DoesNotFit) b ≡ writingLeftOf (writing vs i s z (length b)) b
     unfolding first
     write-outside k = rw (← left, range false (not-true w k))
 
-    pub write-done : (x : List ℕ) → not w ≡ false → x ≡ bytesOf big (length b) y → wrote W.Done x ≡ writes (writing vs i s z (length b)) b
+    pub write-done : (x : List ℕ) → not w ≡ false → x ≡ bytesOf big (length b) y → writingLeft W.Done x ≡ writingLeftOf (writing vs i s z (length b)) b
     unfolding first
     write-done x k p = rw (← left, range true (not-false w k), ← good-big vs i s (length b) j e big h, p, o)
 

@@ -3,7 +3,7 @@ use mathlib.Core.Path.{_≡_, sym, ap, _∙_}
 use mathlib.Core.List.{List}
 use Prim.Native.Nat.{ℕ}
 use Rattle.bsmp.specs.Number.{Reading}
-use Rattle.readings.specs.Answers.{signedReadingOf, unsignedReadingOf, Wrote, wrote}
+use Rattle.readings.specs.Answers.{signedReadingOf, unsignedReadingOf, WritingLeft, writingLeft}
 use Rattle.readings.specs.declared.SignedReading.{SignedReading}
 use Rattle.readings.specs.declared.SignedReading.the-variants as S
 use Rattle.readings.specs.declared.UnsignedReading.{UnsignedReading}
@@ -30,5 +30,5 @@ pub read-unsigned-unique : (x : Reading) (a b : UnsignedReading) → unsignedRea
 read-unsigned-unique x a b h k = unsigned-same a b (h ∙ sym k)
 
 -- both writings: the answers are equal, and so are the buffers
-pub write-unique : (x : Wrote) (a₁ a₂ : Writing) (b₁ b₂ : List ℕ) → wrote a₁ b₁ ≡ x → wrote a₂ b₂ ≡ x → (a₁ ≡ a₂) × (b₁ ≡ b₂)
-write-unique x a₁ a₂ b₁ b₂ h k = (ap (λ (w : Wrote). w .answer) (h ∙ sym k), ap (λ (w : Wrote). w .buffer) (h ∙ sym k))
+pub write-unique : (x : WritingLeft) (a₁ a₂ : Writing) (b₁ b₂ : List ℕ) → writingLeft a₁ b₁ ≡ x → writingLeft a₂ b₂ ≡ x → (a₁ ≡ a₂) × (b₁ ≡ b₂)
+write-unique x a₁ a₂ b₁ b₂ h k = (ap (λ (w : WritingLeft). w .answer) (h ∙ sym k), ap (λ (w : WritingLeft). w .buffer) (h ∙ sym k))

@@ -30,14 +30,14 @@ unsignedReadingOf (U.Is u) = is (pos u)
 unsignedReadingOf (U.Refused n) = Reading.refused n
 
 -- number to bytes: the answer, and what then stands in the buffer
-pub record Wrote : Type 0 where
+pub record WritingLeft : Type 0 where
   pub answer : Writing
   pub buffer : List ℕ
 
-abbrev pub wrote : Writing → List ℕ → Wrote
-wrote r b = record { answer = r; buffer = b }
+abbrev pub writingLeft : Writing → List ℕ → WritingLeft
+writingLeft r b = record { answer = r; buffer = b }
 
 -- all of the buffer is the number's bytes; a refusal changes no byte of it
-abbrev pub writes : Written → (buffer : List ℕ) → Wrote
-writes (bytes b) _ = wrote W.Done b
-writes (Written.refused n) b = wrote (W.Refused n) b
+abbrev pub writingLeftOf : Written → (buffer : List ℕ) → WritingLeft
+writingLeftOf (bytes b) _ = writingLeft W.Done b
+writingLeftOf (Written.refused n) b = writingLeft (W.Refused n) b

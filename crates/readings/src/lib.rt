@@ -9,7 +9,7 @@ ghost use lib.IntN.{pos};
 ghost use lib.ListN.{length};
 ghost use Rattle.bsmp.specs.Number.{wrongKind, isBig, reading, writing};
 ghost use Rattle.records.specs.Lending.{recordsOf};
-ghost use Rattle.readings.specs.Answers.{judgedOf, signedReadingOf, unsignedReadingOf, wrote, writes};
+ghost use Rattle.readings.specs.Answers.{judgedOf, signedReadingOf, unsignedReadingOf, writingLeft, writingLeftOf};
 
 // What signed bytes mean.
 pub enum SignedReading {
@@ -126,8 +126,8 @@ pub fn write_signed(
     number: i64,
     buffer: &mut [u8],
 ) -> Writing
-    ensures { λ r. ⌜ wrote r (now (buffer .exit))
-        ≡ writes (writing (recordsOf records) variable true number (length (now (buffer .entry)))) (now (buffer .entry)) ⌝ }
+    ensures { λ r. let was = now (buffer .entry) in
+        ⌜ writingLeft r (now (buffer .exit)) ≡ writingLeftOf (writing (recordsOf records) variable true number (length was)) was ⌝ }
 {
     let judged = judge(records, variable, true, buffer.len());
     match judged {
@@ -149,8 +149,8 @@ pub fn write_unsigned(
     number: u64,
     buffer: &mut [u8],
 ) -> Writing
-    ensures { λ r. ⌜ wrote r (now (buffer .exit))
-        ≡ writes (writing (recordsOf records) variable false (pos number) (length (now (buffer .entry)))) (now (buffer .entry)) ⌝ }
+    ensures { λ r. let was = now (buffer .entry) in
+        ⌜ writingLeft r (now (buffer .exit)) ≡ writingLeftOf (writing (recordsOf records) variable false (pos number) (length was)) was ⌝ }
 {
     let judged = judge(records, variable, false, buffer.len());
     match judged {

@@ -15,7 +15,7 @@ use Rattle.bsmp.specs.Base.{sum, bit}
 use Rattle.bsmp.specs.Board.{isWritable, sizesOf, writableOf, usableVariable}
 use Rattle.bsmp.specs.declared.Variable.{Variable}
 use Rattle.records.specs.declared.Records.{Records}
-use Rattle.records.specs.Lending.{columns, recordAt, recordsOf}
+use Rattle.records.specs.Lending.{recordsBy, recordAt, recordsOf}
 use Rattle.records.specs.Checks.{checkedOf}
 use Rattle.records.proofs.Walk.{Walked, walked-start, walked-next, walked-stop, walked-end, sum-next, sum-end, marks-next, marks-end}
 use Rattle.records.proofs.Lending.{noVariable, record-count, record-at}
@@ -35,7 +35,7 @@ counted-start vs = record { walked = walked-start usableVariable vs; summed = om
 -- the records, by their columns
 module _ (count : ℕ) (ws ss ks : List ℕ) where
   abbrev r : Records
-  r = columns count ws ss ks
+  r = recordsBy count ws ss ks
 
   module _ (i n m : ℕ) (b : Bool) (h : i < count) (l : count ≤ 64) (e : b ≡ usableVariable (recordAt r i)) (t : not b ≡ false) (q : Counted (recordsOf r) n m i) where
     rules : (getD ws i 0 ≤ 1) × ((1 ≤ getD ss i 0) × (getD ss i 0 ≤ 127))

@@ -16,7 +16,7 @@ use Rattle.bsmp.specs.declared.Curve.{Curve}
 use Rattle.bsmp.specs.declared.Function.{Function}
 use Rattle.records.specs.declared.Records.{Records}
 use Rattle.records.specs.declared.Groups.{Groups}
-use Rattle.records.specs.Lending.{numbered, columns, recordAt, curveAt, functionAt, recordsOf, curvesOf, functionsOf, groupsOf}
+use Rattle.records.specs.Lending.{numbered, recordsBy, recordAt, curveAt, functionAt, recordsOf, curvesOf, functionsOf, groupsOf}
 use Rattle.records.proofs.Walk.{length-numbered, numbered-at, padded-whole, padded-broken}
 
 -- the first n numbers of a list
@@ -46,8 +46,8 @@ module _ (r : Records) where
   unfolding recordsOf
   sizes-lent h = map-map (λ v. v .size) (recordAt r) (upFrom 0 (r .count)) ∙ take-numbered (r .sizes) (r .count) h
 
-pub column-count : (n : ℕ) (ws ss ks : List ℕ) → n ≡ length (recordsOf (columns n ws ss ks))
-column-count n ws ss ks = record-count (columns n ws ss ks)
+pub column-count : (n : ℕ) (ws ss ks : List ℕ) → n ≡ length (recordsOf (recordsBy n ws ss ks))
+column-count n ws ss ks = record-count (recordsBy n ws ss ks)
 
 -- whole records, and what stands for one that is broken or missing
 module _ (ns : List ℕ) where

@@ -17,9 +17,9 @@ use Rattle.records.specs.declared.Groups.{Groups}
 abbrev pub numbered : {A : Type 0} → (ℕ → A) → ℕ → List A
 numbered f n = map f (upFrom 0 n)
 
--- variable records, by columns
-abbrev pub columns : (count : ℕ) → (writable sizes kinds : List ℕ) → Records
-columns n ws ss ks = record { count = n; writable = ws; sizes = ss; kinds = ks }
+-- variable records, by their columns
+abbrev pub recordsBy : (count : ℕ) → (writable sizes kinds : List ℕ) → Records
+recordsBy n ws ss ks = record { count = n; writable = ws; sizes = ss; kinds = ks }
 
 abbrev pub recordAt : Records → ℕ → Variable
 recordAt r i = record { writable = getD (r .writable) i 0; size = getD (r .sizes) i 0; kind = getD (r .kinds) i 0 }

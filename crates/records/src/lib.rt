@@ -14,7 +14,7 @@ ghost use lib.ListN.{length, take, getD, set};
 ghost use Rattle.bsmp.specs.Base.{some};
 ghost use Rattle.bsmp.specs.Codes.{kindOf};
 ghost use Rattle.bsmp.specs.Board.{blankCurve, blankFunction, fitsKind, usableVariable, usableCurve, usableCurves, usableFunctions, usableGroups};
-ghost use Rattle.records.specs.Lending.{columns, recordsOf, curvesOf, functionsOf, groupsOf, tableOf, lent};
+ghost use Rattle.records.specs.Lending.{recordsBy, recordsOf, curvesOf, functionsOf, groupsOf, tableOf, lent};
 ghost use Rattle.records.specs.Checks.{checkedOf, curveBytes, curvesCheckedOf, boardOf};
 
 // The variable records by columns; of the places from `count` on, nothing counts.
@@ -119,7 +119,7 @@ pub fn usable_records(
     sizes: &[u8; 64],
     kinds: &[u8; 64],
 ) -> Checked
-    ensures { λ r. ⌜ r ≡ checkedOf (recordsOf (columns count (now (writable .entry)) (now (sizes .entry)) (now (kinds .entry)))) ⌝ }
+    ensures { λ r. ⌜ r ≡ checkedOf (recordsOf (recordsBy count (now (writable .entry)) (now (sizes .entry)) (now (kinds .entry)))) ⌝ }
 {
     if count < 1 {
         return Checked::REFUSED;
@@ -363,7 +363,7 @@ pub fn usable_board(
     values: &[u8],
     blocks: &[u8],
 ) -> Board
-    ensures { λ r. let records = columns count (now (writable .entry)) (now (sizes .entry)) (now (kinds .entry)) in
+    ensures { λ r. let records = recordsBy count (now (writable .entry)) (now (sizes .entry)) (now (kinds .entry)) in
         let t = tableOf records (now (curves .entry)) (now (functions .entry)) in
         ⌜ r ≡ boardOf t (lent (now (values .entry)) (now (blocks .entry)) (groupsOf groups)) ⌝ }
 {

@@ -9,9 +9,10 @@ use lib.ListN.{length, getD, set, length-set, length-take, length-drop}
 use borrow.Author.Tests.{lt-ltb, le-ltb, ltb-true, ltb-false, eq-eqb, ne-eqb, eqb-true, not-false}
 use borrow.Rule.Slice.PartMut.{midOf, putMid}
 use Rattle.bsmp.specs.Base.{Test, first}
-use Rattle.bsmp.specs.Board.{layout, usable, blankFunction}
+use Rattle.bsmp.specs.Board.{Table, layout, faults, blankFunction}
 use Rattle.bsmp.specs.Packet.{Result, reply, silence, frame, refuse, badOutput, ends, ranSays, resultTests, functionResult, gave, failed}
 use Rattle.bsmp.specs.Packet as P
+use Rattle.bsmp.specs.Store.{Lent, held}
 use Rattle.bsmp.specs.declared.FunctionNumber.{FunctionNumber}
 use Rattle.bsmp.specs.declared.Function.{Function}
 use Rattle.bsmp.specs.declared.Refusal.{Refusal}
@@ -21,16 +22,13 @@ use Rattle.bsmp.proofs.Chain.{broken-at}
 use Rattle.lists.specs.Put.{put, part}
 use Rattle.lists.proofs.Put.{set-put, put-back, length-put}
 use Rattle.wire.proofs.Frame.{frame-shown, frame-outcome}
-use Rattle.records.specs.declared.Records.{Records}
-use Rattle.records.specs.declared.Groups.{Groups}
-use Rattle.records.specs.Lending.{functionsOf, tableOf}
 use Rattle.records.proofs.Sound.{function-bytes}
-use Rattle.results.specs.Results.{stateOf, ranOf, payloadOf, replied, repliedOf}
+use Rattle.results.specs.Results.{ranOf, ranPayload, resultLeft, resultLeftOf}
 use Rattle.results.specs.declared.Ran.{Ran}
 use Rattle.results.specs.declared.Ran.the-variants.{Gave, Failed}
 use Rattle.results.specs.declared.Judged.{Judged}
 use Rattle.results.specs.declared.Judged.the-variants.{Pass, Refuse}
-use Rattle.results.proofs.Judging.{refused-first, passed-first, passed-test, board-sound}
+use Rattle.results.proofs.Judging.{refused-first, passed-first, passed-sound, passed-test}
 
 -- refusals 7 and 8 -------------------------------------------------------------------------------------------------------
 module _ (fs : List Function) (f : FunctionNumber) (n : ℕ) (e : n ≡ length fs) where
@@ -53,10 +51,10 @@ output-none ran o n x g = rw g
 -- the reply --------------------------------------------------------------------------------------------------------------
 -- a payload v that stands at 4, closed
 framed : (r v r₁ r₂ : List ℕ) (code n : ℕ) → r₁ ≡ put r 4 v → 4 + length v < length r → n ≡ length v + 5
-    → r₂ ≡ put r₁ 0 (frame code (part r₁ 4 (length v))) → replied (O.Reply n) r₂ ≡ repliedOf (reply (frame code v)) r
-framed r v r₁ r₂ code n w k e f = ap₂ replied (frame-outcome code (length v) n v refl e) (frame-shown r v code (length v) r₁ r₂ w refl k f)
+    → r₂ ≡ put r₁ 0 (frame code (part r₁ 4 (length v))) → resultLeft (O.Reply n) r₂ ≡ resultLeftOf (reply (frame code v)) r
+framed r v r₁ r₂ code n w k e f = ap₂ resultLeft (frame-outcome code (length v) n v refl e) (frame-shown r v code (length v) r₁ r₂ w refl k f)
 
-module _ (ran : Ran) (o r : List ℕ) (k : length (payloadOf (ranOf ran o)) ≤ 15) (h : 4104 ≤ length r) where
+module _ (ran : Ran) (o r : List ℕ) (k : length (ranPayload (ranOf ran o)) ≤ 15) (h : 4104 ≤ length r) where
   module _ (g : ran ≡ Gave) where
     pub gave-most : length o ≤ 4099
     gave-most = let s : length o ≤ 15 = rw g at k in omega (arith, s)
@@ -73,12 +71,12 @@ module _ (ran : Ran) (o r : List ℕ) (k : length (payloadOf (ranOf ran o)) ≤ 
 
       pub gave-answered : (r₂ : List ℕ) (n : ℕ) → n ≡ length o + 5
           → r₂ ≡ put (putMid 4 (length r - 4) r ys) 0 (frame 0x51 (part (putMid 4 (length r - 4) r ys) 4 (length o)))
-          → replied (O.Reply n) r₂ ≡ repliedOf (ends true (ranSays (ranOf ran o))) r
+          → resultLeft (O.Reply n) r₂ ≡ resultLeftOf (ends true (ranSays (ranOf ran o))) r
       unfolding ends
       gave-answered r₂ n e f = rw g (framed r o _ r₂ 0x51 n written (omega (arith, gave-most)) e f)
 
   pub failed-answered : (x : ℕ) (r₂ : List ℕ) (n : ℕ) → ran ≡ Failed x → n ≡ 1 + 5 → r₂ ≡ put (set r 4 x) 0 (frame 0x53 (part (set r 4 x) 4 1))
-      → replied (O.Reply n) r₂ ≡ repliedOf (ends true (ranSays (ranOf ran o))) r
+      → resultLeft (O.Reply n) r₂ ≡ resultLeftOf (ends true (ranSays (ranOf ran o))) r
   unfolding ends
   failed-answered x r₂ n g e f = rw g (framed r (x ∷ []) _ r₂ 0x53 n (set-put r 4 x (omega arith)) (omega arith) e f)
 
@@ -90,29 +88,29 @@ unfolding ends
 silent (gave o) = refl
 silent (failed x) = refl
 
-short : (ran : P.Ran) (n : ℕ) → n ≤ 15 → badOutput n ran ≡ false → length (payloadOf ran) ≤ 15
+short : (ran : P.Ran) (n : ℕ) → n ≤ 15 → badOutput n ran ≡ false → length (ranPayload ran) ≤ 15
 short (gave o) n h b = let e : length o ≡ n = eqb-true _ _ (not-false _ b) in omega (arith, h)
 short (failed x) n h b = omega arith
 
 -- the call ---------------------------------------------------------------------------------------------------------------
-module _ (r : Records) (cs fs : List ℕ) (g : Groups) (vs bs : List ℕ) (room : ℕ) (f : FunctionNumber) (ran : P.Ran) where
+module _ (t : Table) (x : Lent) (room : ℕ) (f : FunctionNumber) (ran : P.Ran) where
   abbrev tests : List (Test Refusal)
-  tests = resultTests (usable (tableOf r cs fs) (stateOf r cs fs g vs bs)) (layout (tableOf r cs fs)) room f ran
+  tests = resultTests (layout t) room f ran
 
-  module _ (j : Judged) (h : j ≡ first tests Refuse Pass) where
+  module _ (j : Judged) (h : j ≡ first (faults t (held (layout t) x)) Refuse (first tests Refuse Pass)) where
     module _ (due : Bool) (b : List ℕ) where
       abbrev Leaves : Outcome → List ℕ → Type 0
-      Leaves o b′ = replied o b′ ≡ repliedOf (functionResult (tableOf r cs fs) room f due ran (stateOf r cs fs g vs bs) .ending) b
+      Leaves o b′ = resultLeft o b′ ≡ resultLeftOf (functionResult t room f due ran (held (layout t) x) .ending) b
 
       pub result-refused : (n : Refusal) → j ≡ Refuse n → Leaves (O.Refused n) b
       unfolding functionResult
-      result-refused n e = ap (λ (x : Result). repliedOf (x .ending) b) (refused-first _ j h (refuse (stateOf r cs fs g vs bs)) _ n e)
+      result-refused n e = ap (λ (y : Result). resultLeftOf (y .ending) b) (refused-first t x _ j h (refuse (held (layout t) x)) _ n e)
 
-      passed : (o : Outcome) (b′ : List ℕ) → j ≡ Pass → replied o b′ ≡ repliedOf (ends due (ranSays ran)) b → Leaves o b′
+      passed : (o : Outcome) (b′ : List ℕ) → j ≡ Pass → resultLeft o b′ ≡ resultLeftOf (ends due (ranSays ran)) b → Leaves o b′
       unfolding functionResult
-      passed o b′ e q = q ∙ ap (λ (x : Result). repliedOf (x .ending) b) (passed-first _ j h (refuse (stateOf r cs fs g vs bs)) _ e)
+      passed o b′ e q = q ∙ ap (λ (y : Result). resultLeftOf (y .ending) b) (passed-first t x _ j h (refuse (held (layout t) x)) _ e)
 
-      pub result-answered : (o : Outcome) (b′ : List ℕ) → j ≡ Pass → due ≡ true → replied o b′ ≡ repliedOf (ends true (ranSays ran)) b → Leaves o b′
+      pub result-answered : (o : Outcome) (b′ : List ℕ) → j ≡ Pass → due ≡ true → resultLeft o b′ ≡ resultLeftOf (ends true (ranSays ran)) b → Leaves o b′
       result-answered o b′ e d q = passed o b′ e (rw d q)
 
       pub result-silent : j ≡ Pass → due ≡ false → Leaves O.Silence b
@@ -121,13 +119,13 @@ module _ (r : Records) (cs fs : List ℕ) (g : Groups) (vs bs : List ℕ) (room 
     -- what a pass lets the reply lean on
     module _ (e : j ≡ Pass) where
       test : (k : ℕ) → broken-at tests k ≡ false
-      test = passed-test tests j h e
+      test = passed-test t x tests j h e
 
       pub result-room : 4104 ≤ room
-      result-room = ltb-false _ _ (test 1)
+      result-room = ltb-false _ _ (test 0)
 
-      declared : getD (functionsOf fs) (f .0) blankFunction .output ≤ 15
-      declared = function-bytes (functionsOf fs) (board-sound r cs fs g vs bs (test 0) .functions) (f .0) (ltb-true _ _ (not-false _ (test 2))) .1
+      declared : getD (t .functions) (f .0) blankFunction .output ≤ 15
+      declared = function-bytes (t .functions) (passed-sound t x tests j h e .functions) (f .0) (ltb-true _ _ (not-false _ (test 1))) .1
 
-      pub result-short : length (payloadOf ran) ≤ 15
-      result-short = short ran _ declared (test 3)
+      pub result-short : length (ranPayload ran) ≤ 15
+      result-short = short ran _ declared (test 2)

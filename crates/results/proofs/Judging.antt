@@ -1,23 +1,22 @@
 -- The tests of a call before any work: their refusal, or the work. Assumes nothing.
 use mathlib.Core.Path.{_≡_, sym, ap, _∙_}
-use mathlib.Core.Bool.{Bool, false, not}
+use mathlib.Core.Bool.{true, false, not}
 use mathlib.Core.List.{List}
 use Prim.Native.Nat.{ℕ}
 use native.Mathlib.Omega.{arith}
-use borrow.Author.Tests.{not-false}
+use borrow.Author.Tests.{not-true, not-false}
 use Rattle.bsmp.specs.Base.{Test, first}
-use Rattle.bsmp.specs.Board.{usable}
+use Rattle.bsmp.specs.Board.{Table, layout, State, faults}
+use Rattle.bsmp.specs.Store.{Lent, held}
 use Rattle.bsmp.specs.declared.Refusal.{Refusal}
+use Rattle.bsmp.specs.declared.Refusal.the-variants.{BoardUnusable}
 use Rattle.bsmp.proofs.Chain.{clear, broken-at, clear-at, first-case}
+use Rattle.bsmp.proofs.Usable.{clear-usable, faults-none, faults-some}
 use Rattle.wire.proofs.Opening.{first-through}
-use Rattle.records.specs.declared.Records.{Records}
-use Rattle.records.specs.declared.Groups.{Groups}
 use Rattle.records.specs.declared.Board.{Board}
-use Rattle.records.specs.Lending.{groupsOf, tableOf, lent}
 use Rattle.records.specs.Checks.{boardOf}
 use Rattle.records.proofs.Whole.{board-usable}
 use Rattle.records.proofs.Sound.{Sound, usable-sound}
-use Rattle.results.specs.Results.{stateOf}
 use Rattle.results.specs.declared.Judged.{Judged}
 use Rattle.results.specs.declared.Judged.the-variants.{Pass, Refuse}
 
@@ -28,25 +27,42 @@ either f ok (Refuse n) = f n
 refuse-no : (n : Refusal) → Refuse n ≡ Pass → ⊥
 refuse-no n h = let z : _≡_ {A = ℕ} 0 1 = cc in omega arith
 
-module _ (ts : List (Test Refusal)) (j : Judged) (h : j ≡ first ts Refuse Pass) where
-  tested : {B : Type 0} (f : Refusal → B) (ok : B) → either f ok j ≡ first ts f ok
-  tested f ok = ap (either f ok) h ∙ first-through (either f ok) ts Refuse Pass
+module _ (t : Table) (x : Lent) where
+  abbrev s : State
+  s = held (layout t) x
 
-  pub refused-first : {B : Type 0} (f : Refusal → B) (ok : B) (n : Refusal) → j ≡ Refuse n → f n ≡ first ts f ok
-  refused-first f ok n e = ap (either f ok) (sym e) ∙ tested f ok
+  -- refusal 1, as the board's check gives it
+  module _ (c : Board) (e : c ≡ boardOf t x) where
+    pub board-sound : not (c .usable) ≡ false → Sound t x
+    board-sound h = usable-sound t x (sym (board-usable t x c e) ∙ not-false _ h)
 
-  pub passed-first : {B : Type 0} (f : Refusal → B) (ok : B) → j ≡ Pass → ok ≡ first ts f ok
-  passed-first f ok e = ap (either f ok) (sym e) ∙ tested f ok
+    module _ {B : Type 0} (f : Refusal → B) (ok y : B) where
+      pub board-refuses : not (c .usable) ≡ true → y ≡ f BoardUnusable → y ≡ first (faults t s) f ok
+      board-refuses h q = faults-some t s f ok y (sym (board-usable t x c e) ∙ not-true _ h) q
 
-  pub passed-test : j ≡ Pass → (k : ℕ) → broken-at ts k ≡ false
-  passed-test e =
-      clear-at ts (first-case (λ v. v ≡ Pass → clear ts) ts Refuse Pass (λ n k. absurd (refuse-no n k)) (λ c k. c) (sym h ∙ e))
+      pub board-passes : not (c .usable) ≡ false → y ≡ ok → y ≡ first (faults t s) f ok
+      board-passes h q = faults-none t s f ok y (sym (board-usable t x c e) ∙ not-false _ h) q
 
--- refusal 1, as the board's check told it
-module _ (r : Records) (cs fs : List ℕ) (g : Groups) (vs bs : List ℕ) where
-  pub board-told : (c : Board) (b : Bool) → c ≡ boardOf (tableOf r cs fs) (lent vs bs (groupsOf g)) → not (c .usable) ≡ b
-      → not (usable (tableOf r cs fs) (stateOf r cs fs g vs bs)) ≡ b
-  board-told c b e h = rw (← board-usable (tableOf r cs fs) (lent vs bs (groupsOf g)) c e) h
+  -- the board's tests and those of the call, judged
+  module _ (ts : List (Test Refusal)) (j : Judged) (h : j ≡ first (faults t s) Refuse (first ts Refuse Pass)) where
+    tested : {B : Type 0} (f : Refusal → B) (ok : B) → either f ok j ≡ first (faults t s) f (first ts f ok)
+    tested f ok =
+        ap (either f ok) h ∙ first-through (either f ok) (faults t s) Refuse (first ts Refuse Pass)
+        ∙ ap (first (faults t s) f) (first-through (either f ok) ts Refuse Pass)
 
-  pub board-sound : not (usable (tableOf r cs fs) (stateOf r cs fs g vs bs)) ≡ false → Sound (tableOf r cs fs) (lent vs bs (groupsOf g))
-  board-sound h = usable-sound (tableOf r cs fs) (lent vs bs (groupsOf g)) (not-false _ h)
+    pub refused-first : {B : Type 0} (f : Refusal → B) (ok : B) (n : Refusal) → j ≡ Refuse n → f n ≡ first (faults t s) f (first ts f ok)
+    refused-first f ok n e = ap (either f ok) (sym e) ∙ tested f ok
+
+    pub passed-first : {B : Type 0} (f : Refusal → B) (ok : B) → j ≡ Pass → ok ≡ first (faults t s) f (first ts f ok)
+    passed-first f ok e = ap (either f ok) (sym e) ∙ tested f ok
+
+    passed : j ≡ Pass → clear (faults t s) × clear ts
+    passed e =
+        first-case (λ v. v ≡ Pass → clear (faults t s) × clear ts) (faults t s) Refuse _ (λ n k. absurd (refuse-no n k))
+        (λ b. first-case (λ v. v ≡ Pass → clear (faults t s) × clear ts) ts Refuse Pass (λ n k. absurd (refuse-no n k)) (λ c k. (b, c))) (sym h ∙ e)
+
+    pub passed-sound : j ≡ Pass → Sound t x
+    passed-sound e = usable-sound t x (clear-usable t s (passed e .0))
+
+    pub passed-test : j ≡ Pass → (k : ℕ) → broken-at ts k ≡ false
+    passed-test e = clear-at ts (passed e .1)

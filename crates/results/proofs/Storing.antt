@@ -8,9 +8,10 @@ use lib.Dec.{ltb, eqb}
 use lib.ListN.{length, take, getD, length-map, List·getD-map}
 use borrow.Author.Tests.{lt-ltb, le-ltb, ltb-true, eq-eqb, ne-eqb, eqb-true, not-false}
 use Rattle.bsmp.specs.Base.{Test, first, cut, join}
-use Rattle.bsmp.specs.Board.{layout, sizesOf, usable}
+use Rattle.bsmp.specs.Board.{Table, layout, State, sizesOf, faults}
 use Rattle.bsmp.specs.Message.{edited, after}
 use Rattle.bsmp.specs.Packet.{refuse, storeTests, boardStore}
+use Rattle.bsmp.specs.Store.{Lent, held}
 use Rattle.bsmp.specs.declared.VariableNumber.{VariableNumber}
 use Rattle.bsmp.specs.declared.Variable.{Variable}
 use Rattle.bsmp.specs.declared.Operation.the-variants.{Replace}
@@ -20,17 +21,16 @@ use Rattle.bsmp.proofs.Store.{join-cut}
 use Rattle.sets.specs.Members.{sizeAt}
 use Rattle.sets.specs.Promises as sets
 use Rattle.records.specs.declared.Records.{Records}
-use Rattle.records.specs.declared.Groups.{Groups}
 use Rattle.records.specs.declared.Board.{Board}
-use Rattle.records.specs.Lending.{recordsOf, groupsOf, tableOf, lent}
+use Rattle.records.specs.Lending.{recordsOf, tableOf, lent}
 use Rattle.records.specs.Checks.{boardOf}
 use Rattle.records.proofs.Lending.{noVariable, record-count, record-at, sizes-lent}
 use Rattle.records.proofs.Sound.{Sound, variables-most, variables-small}
-use Rattle.results.specs.Results.{stateOf, kept, keptOf}
+use Rattle.results.specs.Results.{storeLeft, storeLeftOf}
 use Rattle.results.specs.declared.Stored.the-variants.{Done, Refused}
 use Rattle.results.specs.declared.Judged.{Judged}
 use Rattle.results.specs.declared.Judged.the-variants.{Pass, Refuse}
-use Rattle.results.proofs.Judging.{refused-first, passed-first, passed-test, board-told, board-sound}
+use Rattle.results.proofs.Judging.{refused-first, passed-first, passed-sound, passed-test, board-sound}
 
 -- refusals 9 and 10 ------------------------------------------------------------------------------------------------------
 module _ (r : Records) where
@@ -54,32 +54,44 @@ module _ (r : Records) where
       pub bytes-right : (n : ℕ) → n ≡ getD (r .sizes) i 0 → not (eqb n (getD (sizesOf (recordsOf r)) i 0)) ≡ false
       bytes-right n k = rw (size-at, eq-eqb _ _ k)
 
-module _ (r : Records) (cs fs : List ℕ) (g : Groups) (vs bs : List ℕ) where
-  few : not (usable (tableOf r cs fs) (stateOf r cs fs g vs bs)) ≡ false → r .count ≤ 64
-  few u = rw (record-count r) (variables-most (recordsOf r) (board-sound r cs fs g vs bs u .variables))
+module _ (r : Records) (cs fs vs bs gs : List ℕ) where
+  abbrev t : Table
+  t = tableOf r cs fs
 
-  pub size-inside : (c : Board) (i : ℕ) → c ≡ boardOf (tableOf r cs fs) (lent vs bs (groupsOf g)) → not (c .usable) ≡ false → i < r .count → i < 64
-  size-inside c i e u h = omega (arith, few (board-told r cs fs g vs bs c false e u))
+  abbrev x : Lent
+  x = lent vs bs gs
+
+  abbrev s : State
+  s = held (layout t) x
+
+  few : Sound t x → r .count ≤ 64
+  few z = rw (record-count r) (variables-most (recordsOf r) (z .variables))
+
+  pub size-inside : (c : Board) (i : ℕ) → c ≡ boardOf t x → not (c .usable) ≡ false → i < r .count → i < 64
+  size-inside c i e u h = omega (arith, few (board-sound t x c e u))
 
   -- the call ---------------------------------------------------------------------------------------------------------------
   module _ (i : VariableNumber) (b : List ℕ) where
     abbrev tests : List (Test Refusal)
-    tests = storeTests (usable (tableOf r cs fs) (stateOf r cs fs g vs bs)) (layout (tableOf r cs fs)) i b
+    tests = storeTests (layout t) i b
 
-    module _ (j : Judged) (h : j ≡ first tests Refuse Pass) where
-      pub store-refused : (n : Refusal) → j ≡ Refuse n → kept (Refused n) vs ≡ keptOf (boardStore (tableOf r cs fs) i b (stateOf r cs fs g vs bs))
+    module _ (j : Judged) (h : j ≡ first (faults t s) Refuse (first tests Refuse Pass)) where
+      pub store-refused : (n : Refusal) → j ≡ Refuse n → storeLeft (Refused n) vs ≡ storeLeftOf (boardStore t i b s)
       unfolding boardStore
       store-refused n e =
-          ap (kept (Refused n)) (sym (join-cut (sizesOf (recordsOf r)) vs))
-          ∙ ap keptOf (refused-first _ j h (refuse (stateOf r cs fs g vs bs)) _ n e)
+          ap (storeLeft (Refused n)) (sym (join-cut (sizesOf (recordsOf r)) vs))
+          ∙ ap storeLeftOf (refused-first t x _ j h (refuse s) _ n e)
 
       -- what a pass lets the store lean on
       module _ (e : j ≡ Pass) where
         test : (k : ℕ) → broken-at tests k ≡ false
-        test = passed-test tests j h e
+        test = passed-test t x tests j h e
+
+        sound : Sound t x
+        sound = passed-sound t x tests j h e
 
         store-few : r .count ≤ 64
-        store-few = few (test 0)
+        store-few = few sound
 
         module _ (l : length (r .sizes) ≡ 64) where
           pub store-lent : r .count ≤ length (r .sizes)
@@ -93,7 +105,7 @@ module _ (r : Records) (cs fs : List ℕ) (g : Groups) (vs bs : List ℕ) where
 
           pub store-sound : sets.Sound (take (r .count) (r .sizes)) vs
           store-sound =
-              let z = board-sound r cs fs g vs bs (test 0) in
+              let z = sound in
               rw (← lending) (record {
                 few = omega (arith, size-count r, store-few);
                 exact = sym (z .values);
@@ -101,15 +113,15 @@ module _ (r : Records) (cs fs : List ℕ) (g : Groups) (vs bs : List ℕ) where
               })
 
           pub store-known : i .0 < length (take (r .count) (r .sizes))
-          store-known = rw (← lending) (ltb-true _ _ (not-false _ (test 1)))
+          store-known = rw (← lending) (ltb-true _ _ (not-false _ (test 0)))
 
           pub store-whole : (n : ℕ) → n ≡ length b → n ≡ sizeAt (take (r .count) (r .sizes)) i
-          store-whole n q = q ∙ rw (← lending) (eqb-true _ _ (not-false _ (test 2)))
+          store-whole n q = q ∙ rw (← lending) (eqb-true _ _ (not-false _ (test 1)))
 
           pub store-done : (vs′ : List ℕ)
               → cut (take (r .count) (r .sizes)) vs′ ≡ edited Replace (i ∷ []) (b ∷ []) (cut (take (r .count) (r .sizes)) vs)
-              → kept Done vs′ ≡ keptOf (boardStore (tableOf r cs fs) i b (stateOf r cs fs g vs bs))
+              → storeLeft Done vs′ ≡ storeLeftOf (boardStore t i b s)
           unfolding boardStore after
           store-done vs′ q =
-              ap (kept Done) (sym (join-cut (sizesOf (recordsOf r)) vs′) ∙ ap join (rw (← lending) at q))
-              ∙ ap keptOf (passed-first _ j h (refuse (stateOf r cs fs g vs bs)) _ e)
+              ap (storeLeft Done) (sym (join-cut (sizesOf (recordsOf r)) vs′) ∙ ap join (rw (← lending) at q))
+              ∙ ap storeLeftOf (passed-first t x _ j h (refuse s) _ e)

@@ -4,7 +4,7 @@ use mathlib.Core.List.{List}
 use Prim.Native.Nat.{ℕ}
 use native.Mathlib.Omega.{arith}
 use lib.ListN.{length}
-use Rattle.bsmp.specs.Board.{Table, State, layout, sizesOf, usable}
+use Rattle.bsmp.specs.Board.{Table, State, layout, sizesOf, faults}
 use Rattle.bsmp.specs.Packet.{Ending, reply, silence, run, refuse, storeTests, boardStore}
 use Rattle.bsmp.specs.Store.{Lent, held}
 use Rattle.bsmp.specs.declared.VariableNumber.{VariableNumber}
@@ -13,16 +13,16 @@ use Rattle.bsmp.specs.declared.Outcome.{Outcome}
 use Rattle.bsmp.specs.declared.Outcome.the-variants as O
 use Rattle.bsmp.proofs.Chain.{first-case}
 use Rattle.bsmp.proofs.Store.{join-cut}
-use Rattle.results.specs.Results.{Replied, replied, repliedOf, storedOf, Kept, kept, keptOf}
+use Rattle.results.specs.Results.{ResultLeft, resultLeft, resultLeftOf, storedOf, StoreLeft, storeLeft, storeLeftOf}
 use Rattle.results.specs.declared.Stored.{Stored}
 use Rattle.results.specs.declared.Stored.the-variants.{Done, Refused}
 
 -- x is what the definition gives, the right side of the promise
-pub result-unique : (x : Replied) (o o′ : Outcome) (b b′ : List ℕ) → replied o b ≡ x → replied o′ b′ ≡ x → (o ≡ o′) × (b ≡ b′)
-result-unique x o o′ b b′ h k = (ap (λ (y : Replied). y .outcome) (h ∙ sym k), ap (λ (y : Replied). y .reply) (h ∙ sym k))
+pub result-unique : (x : ResultLeft) (o o′ : Outcome) (b b′ : List ℕ) → resultLeft o b ≡ x → resultLeft o′ b′ ≡ x → (o ≡ o′) × (b ≡ b′)
+result-unique x o o′ b b′ h k = (ap (λ (y : ResultLeft). y .outcome) (h ∙ sym k), ap (λ (y : ResultLeft). y .reply) (h ∙ sym k))
 
-pub store-unique : (x : Kept) (a a′ : Stored) (vs vs′ : List ℕ) → kept a vs ≡ x → kept a′ vs′ ≡ x → (a ≡ a′) × (vs ≡ vs′)
-store-unique x a a′ vs vs′ h k = (ap (λ (y : Kept). y .stored) (h ∙ sym k), ap (λ (y : Kept). y .values) (h ∙ sym k))
+pub store-unique : (x : StoreLeft) (a a′ : Stored) (vs vs′ : List ℕ) → storeLeft a vs ≡ x → storeLeft a′ vs′ ≡ x → (a ≡ a′) × (vs ≡ vs′)
+store-unique x a a′ vs vs′ h k = (ap (λ (y : StoreLeft). y .stored) (h ∙ sym k), ap (λ (y : StoreLeft). y .values) (h ∙ sym k))
 
 -- the answer of a board store tells its whole ending
 abbrev endingOf : Stored → Ending
@@ -31,25 +31,30 @@ endingOf (Refused n) = Ending.refused n
 
 pub store-ends : (t : Table) (i : VariableNumber) (b : List ℕ) (s : State) → boardStore t i b s .ending ≡ endingOf (storedOf (boardStore t i b s .ending))
 unfolding boardStore
-store-ends t i b s = first-case (λ r. r .ending ≡ endingOf (storedOf (r .ending))) (storeTests (usable t s) (layout t) i b) (refuse s) _ (λ n. refl) (λ c. refl)
+store-ends t i b s =
+    first-case (λ r. r .ending ≡ endingOf (storedOf (r .ending))) (faults t s) (refuse s) _ (λ n. refl)
+    (λ d. first-case (λ r. r .ending ≡ endingOf (storedOf (r .ending))) (storeTests (layout t) i b) (refuse s) _ (λ n. refl) (λ c. refl))
 
 reply-no : (n : Refusal) (k : ℕ) → O.Refused n ≡ O.Reply k → ⊥
 reply-no n k h = let z : _≡_ {A = ℕ} 0 1 = cc in omega arith
 
 -- "A local refusal returns its number only and changes no byte of any .. buffer"
-pub refused-reply : (e : Ending) (n : Refusal) (b b′ : List ℕ) → replied (O.Refused n) b′ ≡ repliedOf e b → b′ ≡ b
-refused-reply (reply r) n b b′ h = absurd (reply-no n (length r) (ap (λ (y : Replied). y .outcome) h))
-refused-reply silence n b b′ h = ap (λ (y : Replied). y .reply) h
-refused-reply (run f i due) n b b′ h = ap (λ (y : Replied). y .reply) h
-refused-reply (Ending.refused m) n b b′ h = ap (λ (y : Replied). y .reply) h
+pub refused-reply : (e : Ending) (n : Refusal) (b b′ : List ℕ) → resultLeft (O.Refused n) b′ ≡ resultLeftOf e b → b′ ≡ b
+refused-reply (reply r) n b b′ h = absurd (reply-no n (length r) (ap (λ (y : ResultLeft). y .outcome) h))
+refused-reply silence n b b′ h = ap (λ (y : ResultLeft). y .reply) h
+refused-reply (run f i due) n b b′ h = ap (λ (y : ResultLeft). y .reply) h
+refused-reply (Ending.refused m) n b b′ h = ap (λ (y : ResultLeft). y .reply) h
 
 done-no : (n : Refusal) → Refused n ≡ Done → ⊥
 done-no n h = let z : _≡_ {A = ℕ} 0 1 = cc in omega arith
 
 pub refused-values : (t : Table) (i : VariableNumber) (b : List ℕ) (x : Lent) (n : Refusal) (vs′ : List ℕ)
-    → kept (Refused n) vs′ ≡ keptOf (boardStore t i b (held (layout t) x)) → vs′ ≡ x .values
+    → storeLeft (Refused n) vs′ ≡ storeLeftOf (boardStore t i b (held (layout t) x)) → vs′ ≡ x .values
 unfolding boardStore
 refused-values t i b x n vs′ =
-    first-case (λ r. kept (Refused n) vs′ ≡ keptOf r → vs′ ≡ x .values) (storeTests (usable t (held (layout t) x)) (layout t) i b) (refuse (held (layout t) x)) _
-    (λ m h. ap (λ (y : Kept). y .values) h ∙ join-cut (sizesOf (t .variables)) (x .values))
-    (λ c h. absurd (done-no n (ap (λ (y : Kept). y .stored) h)))
+    first-case (λ r. storeLeft (Refused n) vs′ ≡ storeLeftOf r → vs′ ≡ x .values) (faults t (held (layout t) x)) (refuse (held (layout t) x)) _ kept
+    (λ d. first-case (λ r. storeLeft (Refused n) vs′ ≡ storeLeftOf r → vs′ ≡ x .values) (storeTests (layout t) i b) (refuse (held (layout t) x)) _ kept
+    (λ c h. absurd (done-no n (ap (λ (y : StoreLeft). y .stored) h))))
+  where
+    kept : (m : Refusal) → storeLeft (Refused n) vs′ ≡ storeLeftOf (refuse (held (layout t) x) m) → vs′ ≡ x .values
+    kept m h = ap (λ (y : StoreLeft). y .values) h ∙ join-cut (sizesOf (t .variables)) (x .values)

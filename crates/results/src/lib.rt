@@ -10,11 +10,12 @@ ghost use mathlib.Core.Bool.{true};
 ghost use Prim.Native.Nat.{_≤_};
 ghost use lib.ListN.{length};
 ghost use Rattle.bsmp.specs.Base.{first};
-ghost use Rattle.bsmp.specs.Board.{layout, usable};
+ghost use Rattle.bsmp.specs.Board.{layout, faults};
 ghost use Rattle.bsmp.specs.Packet.{ends, ranSays, resultTests, storeTests, functionResult, boardStore};
+ghost use Rattle.bsmp.specs.Store.{held};
 ghost use Rattle.bsmp.specs.declared.Outcome.the-variants.{Reply};
-ghost use Rattle.records.specs.Lending.{tableOf};
-ghost use Rattle.results.specs.Results.{stateOf, ranOf, payloadOf, replied, repliedOf, kept, keptOf};
+ghost use Rattle.records.specs.Lending.{groupsOf, tableOf, lent};
+ghost use Rattle.results.specs.Results.{ranOf, ranPayload, resultLeft, resultLeftOf, storeLeft, storeLeftOf};
 ghost use Rattle.results.specs.declared.Judged.the-variants.{Pass, Refuse};
 
 // How a function ran. The bytes that it gave stand beside this; one that failed gives an error byte only.
@@ -53,10 +54,9 @@ fn judge_result(
     output: &[u8],
     room: usize,
 ) -> Judged
-    ensures { λ r. ⌜ r ≡ first (resultTests
-        (usable (tableOf records (now (curves .entry)) (now (functions .entry)))
-        (stateOf records (now (curves .entry)) (now (functions .entry)) groups (now (values .entry)) (now (blocks .entry))))
-        (layout (tableOf records (now (curves .entry)) (now (functions .entry)))) room function (ranOf ran (now (output .entry)))) Refuse Pass ⌝ }
+    ensures { λ r. let table = tableOf records (now (curves .entry)) (now (functions .entry)) in
+        let state = held (layout table) (lent (now (values .entry)) (now (blocks .entry)) (groupsOf groups)) in
+        ⌜ r ≡ first (faults table state) Refuse (first (resultTests (layout table) room function (ranOf ran (now (output .entry)))) Refuse Pass) ⌝ }
 {
     let count = records.count;
     let writable = records.writable;
@@ -96,8 +96,8 @@ fn judge_result(
 
 // The reply: 51 with the output, or 53 with the error byte.
 fn answer(ran: Ran, output: &[u8], reply: &mut [u8]) -> usize
-    requires { ⌜ (length (payloadOf (ranOf ran (now output))) ≤ 15) × (4104 ≤ length (now reply)) ⌝ }
-    ensures { λ r. ⌜ replied (Reply r) (now (reply .exit)) ≡ repliedOf (ends true (ranSays (ranOf ran (now (output .entry))))) (now (reply .entry)) ⌝ }
+    requires { ⌜ (length (ranPayload (ranOf ran (now output))) ≤ 15) × (4104 ≤ length (now reply)) ⌝ }
+    ensures { λ r. ⌜ resultLeft (Reply r) (now (reply .exit)) ≡ resultLeftOf (ends true (ranSays (ranOf ran (now (output .entry))))) (now (reply .entry)) ⌝ }
 {
     match ran {
         Ran::Gave => {
@@ -125,11 +125,11 @@ pub fn function_result(
     output: &[u8],
     reply: &mut [u8],
 ) -> Outcome
-    ensures { λ r. ⌜ replied r (now (reply .exit))
-        ≡ repliedOf (functionResult (tableOf records (now (curves .entry)) (now (functions .entry))) (length (now (reply .entry))) function due
-        (ranOf ran (now (output .entry)))
-        (stateOf records (now (curves .entry)) (now (functions .entry)) groups (now (values .entry)) (now (blocks .entry)))
-        .ending) (now (reply .entry)) ⌝ }
+    ensures { λ r. let table = tableOf records (now (curves .entry)) (now (functions .entry)) in
+        let state = held (layout table) (lent (now (values .entry)) (now (blocks .entry)) (groupsOf groups)) in
+        let was = now (reply .entry) in
+        ⌜ resultLeft r (now (reply .exit))
+        ≡ resultLeftOf (functionResult table (length was) function due (ranOf ran (now (output .entry))) state .ending) was ⌝ }
 {
     let room = reply.len();
     let judged = judge_result(
@@ -166,10 +166,9 @@ fn judge_store(
     variable: VariableNumber,
     bytes: &[u8],
 ) -> Judged
-    ensures { λ r. ⌜ r ≡ first (storeTests
-        (usable (tableOf records (now (curves .entry)) (now (functions .entry)))
-        (stateOf records (now (curves .entry)) (now (functions .entry)) groups (now (values .entry)) (now (blocks .entry))))
-        (layout (tableOf records (now (curves .entry)) (now (functions .entry)))) variable (now (bytes .entry))) Refuse Pass ⌝ }
+    ensures { λ r. let table = tableOf records (now (curves .entry)) (now (functions .entry)) in
+        let state = held (layout table) (lent (now (values .entry)) (now (blocks .entry)) (groupsOf groups)) in
+        ⌜ r ≡ first (faults table state) Refuse (first (storeTests (layout table) variable (now (bytes .entry))) Refuse Pass) ⌝ }
 {
     let count = records.count;
     let writable = records.writable;
@@ -210,9 +209,9 @@ pub fn board_store(
     variable: VariableNumber,
     bytes: &[u8],
 ) -> Stored
-    ensures { λ r. ⌜ kept r (now (values .exit))
-        ≡ keptOf (boardStore (tableOf records (now (curves .entry)) (now (functions .entry))) variable (now (bytes .entry))
-        (stateOf records (now (curves .entry)) (now (functions .entry)) groups (now (values .entry)) (now (blocks .entry)))) ⌝ }
+    ensures { λ r. let table = tableOf records (now (curves .entry)) (now (functions .entry)) in
+        let state = held (layout table) (lent (now (values .entry)) (now (blocks .entry)) (groupsOf groups)) in
+        ⌜ storeLeft r (now (values .exit)) ≡ storeLeftOf (boardStore table variable (now (bytes .entry)) state) ⌝ }
 {
     let judged = judge_store(
         records,

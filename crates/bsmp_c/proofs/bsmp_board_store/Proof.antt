@@ -1,26 +1,33 @@
--- `bsmp_board_store` meets its contract: it is a thin entry over `telling::store_told` (`StoreWalk.antt`). Made by tools/walks/gen_entry.py. Assumes nothing.
+-- `bsmp_board_store` meets its contract: it is a thin entry over `plain::board_store` (`StoreWalk.antt`). Made by tools/walks/gen_entry.py. Assumes nothing.
 use contract.Running.{givenOf, tables, tablesOf}
 use denote.Triple.Spec.{tripleOf}
 use denote.Triple.Table.{entered, cited}
-use Rattle.telling.specs.Comes.{storeFrom}
-use Rattle.bsmp_c.proofs.Same.{store-from-same}
+use Rattle.plain.specs.Lending.{lending}
+use Rattle.plain.specs.Calls.{storeOf}
+use Rattle.bsmp_c.proofs.Same.{store-same}
 use Rattle.bsmp_c.proofs.StoreWalk as thin
-use Rattle.taken.proofs.records_of.Symbol as table-def
-use Rattle.taken.proofs.records_of.Symbol.{name as #taken·records-of}
-use Rattle.taken.proofs.records_of.Met as table-thm
-use Rattle.telling.proofs.store_told.Symbol as work-def
-use Rattle.telling.proofs.store_told.Symbol.{name as #telling·store-told}
-use Rattle.telling.proofs.store_told.Met as work-thm
+use Rattle.columns.proofs.columns_of.Symbol as table-def
+use Rattle.columns.proofs.columns_of.Symbol.{name as #columns·columns-of}
+use Rattle.columns.proofs.columns_of.Met as table-thm
+use Rattle.plain.proofs.board_store.Symbol as work-def
+use Rattle.plain.proofs.board_store.Symbol.{name as #plain·board-store}
+use Rattle.plain.proofs.board_store.Met as work-thm
 use Rattle.bsmp_c.proofs.bsmp_board_store.Key.{name as #bsmp_c·bsmp-board-store}
 use Rattle.bsmp_c.proofs.bsmp_board_store as f
 use Rattle.bsmp_c.proofs.bsmp_board_store.Statement as stated
 use Rattle.bsmp_c.proofs.bsmp_board_store.Code as code
+
+abbrev turnOf : thin.TurnOf
+turnOf variables curves functions groups values blocks number bytes = storeOf (lending variables curves functions groups values blocks) number bytes
+
+agree : thin.Agree turnOf
+agree variables curves functions groups values blocks number bytes = store-same (lending variables curves functions groups values blocks) number bytes
 
 pub bsmp-board-store-spec : {M : Type 1} → stated.statement M
 unfolding code.routine tablesOf
 bsmp-board-store-spec 𝓤 H 𝓜 𝓖 𝓡 =
     entered 𝓤 H (tripleOf 𝓤 H (𝓖 .A) f.signature (f.spec 𝓤 H (𝓖 .A) (𝓜 .mem) (𝓡 .run)))
     (tables 𝓤 H 𝓜 𝓡 code.env .C) (tables 𝓤 H 𝓜 𝓡 code.env .Λ) #bsmp_c·bsmp-board-store code.function (code.unfolded 𝓤 H 𝓜 𝓡)
-    (thin.meets storeFrom store-from-same #taken·records-of #telling·store-told 𝓤 H (𝓖 .A) (givenOf 𝓤 H 𝓜 𝓖) (𝓜 .mem) (𝓡 .run) (tablesOf 𝓤 H 𝓜 (tables 𝓤 H 𝓜 𝓡 code.env))
-    (cited 𝓤 H (thin.TableOf 𝓤 H (𝓖 .A) (𝓜 .mem) (𝓡 .run)) 𝓜 𝓡 code.env #taken·records-of table-def.routine code.calls-taken·records-of (table-thm.met 𝓤 H 𝓜 𝓖 𝓡))
-    (cited 𝓤 H (thin.Work 𝓤 H (𝓖 .A) storeFrom) 𝓜 𝓡 code.env #telling·store-told work-def.routine code.calls-telling·store-told (work-thm.met 𝓤 H 𝓜 𝓖 𝓡)))
+    (thin.meets turnOf agree #columns·columns-of #plain·board-store 𝓤 H (𝓖 .A) (givenOf 𝓤 H 𝓜 𝓖) (𝓜 .mem) (𝓡 .run) (tablesOf 𝓤 H 𝓜 (tables 𝓤 H 𝓜 𝓡 code.env))
+    (cited 𝓤 H (thin.TableOf 𝓤 H (𝓖 .A) (𝓜 .mem) (𝓡 .run)) 𝓜 𝓡 code.env #columns·columns-of table-def.routine code.calls-columns·columns-of (table-thm.met 𝓤 H 𝓜 𝓖 𝓡))
+    (cited 𝓤 H (thin.Work 𝓤 H (𝓖 .A) turnOf) 𝓜 𝓡 code.env #plain·board-store work-def.routine code.calls-plain·board-store (work-thm.met 𝓤 H 𝓜 𝓖 𝓡)))

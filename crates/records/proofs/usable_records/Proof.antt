@@ -1,7 +1,7 @@
 -- `usable_records` meets its contract: one walk over the records. Assumes nothing.
 use Prim.Native.Nat.{_-_}
 use borrow.Author.Needs.{needs}
-use Rattle.records.specs.Lending.{columns, recordsOf}
+use Rattle.records.specs.Lending.{recordsBy, recordsOf}
 use Rattle.records.proofs.Lending.{column-count}
 use Rattle.records.proofs.Checks.{records-refused, variables-few, variables-many, variables-large}
 use Rattle.records.proofs.Counting.{Counted, counted-start, total-fits, marks-fit, counted-stop, counted-next, counted-sum, counted-end}
@@ -9,7 +9,7 @@ use Rattle.records.proofs.usable_records.Statement.{statement}
 use Rattle.records.proofs.usable_records.Tie as tie
 
 abbrev Inv-loop : tie.InvT-loop
-Inv-loop count writable sizes kinds bytes₀ marks₀ i₀ bytes marks i = Counted (recordsOf (columns count writable sizes kinds)) bytes marks i
+Inv-loop count writable sizes kinds bytes₀ marks₀ i₀ bytes marks i = Counted (recordsOf (recordsBy count writable sizes kinds)) bytes marks i
 
 abbrev μ-loop : tie.MeasureT-loop
 μ-loop count writable sizes kinds bytes₀ marks₀ i₀ bytes marks i = count - i

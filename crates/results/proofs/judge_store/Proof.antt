@@ -1,7 +1,7 @@
 -- `judge_store` meets its contract. Assumes nothing.
 use borrow.Author.Needs.{needs}
 use Rattle.bsmp.proofs.Chain.{first-next, first-stop, first-end}
-use Rattle.results.proofs.Judging.{board-told}
+use Rattle.results.proofs.Judging.{board-refuses, board-passes}
 use Rattle.results.proofs.Storing.{variable-missing, variable-known, bytes-wrong, bytes-right, size-inside}
 use Rattle.results.proofs.judge_store.Statement.{statement}
 use Rattle.results.proofs.judge_store.Tie as tie
@@ -9,8 +9,8 @@ use Rattle.results.proofs.judge_store.Tie as tie
 pub judge-store-spec : {M : Type 1} → statement M
 judge-store-spec =
     tie.close
-    (tie.spec (λ c κs. search needs) (λ c. search (first-stop, board-told, needs) depth 4)
-    (λ c. search (first-next, first-stop, board-told, variable-missing, needs) depth 5)
+    (tie.spec (λ c κs. search needs) (λ c. search (board-refuses, needs))
+    (λ c. search (board-passes, first-stop, variable-missing, needs) depth 5)
     (λ c. search (size-inside, needs)) (λ c. let k = c .before .before .before .before .before .before .before .before .before .before .before .before .before .before .before .good .0 .1 .1 .1 in search (k .0 .1 .1, k .1 .0 .1 .1, k .1 .1 .0 .1 .1, needs))
-    (λ c. search (first-next, first-stop, board-told, variable-known, bytes-wrong, needs) depth 6)
-    (λ c. search (first-next, first-end, board-told, variable-known, bytes-right, needs) depth 7))
+    (λ c. search (board-passes, first-next, first-stop, variable-known, bytes-wrong, needs) depth 6)
+    (λ c. search (board-passes, first-next, first-end, variable-known, bytes-right, needs) depth 7))

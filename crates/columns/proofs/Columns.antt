@@ -1,0 +1,70 @@
+-- What the columns say: of 64 records or fewer they are the lent records themselves; of more, only their number counts. Assumes nothing.
+use mathlib.Core.Path.{_≡_, refl, sym, _∙_, ap, subst}
+use mathlib.Core.Logic.{inl, inr}
+use mathlib.Core.List.{List}
+use Prim.Native.Nat.{ℕ, zero, suc, min, _<_, _≤_}
+use native.Mathlib.Nat.{not-suc-le-zero, le-of-suc-le-suc, eq-or-lt-of-le}
+use native.Mathlib.Omega.{arith}
+use native.Mathlib.Decide.{decLt}
+use lib.ListN.{length, getD, set, length-set}
+use lib.Seq.{getD-set-same, getD-set-other, ext-getD}
+use Rattle.bsmp.specs.declared.Variable.{Variable}
+use Rattle.records.specs.declared.Records.{Records}
+use Rattle.records.specs.Lending.{recordAt, recordsOf}
+use Rattle.records.proofs.Lending.{record-count, record-at}
+use Rattle.columns.specs.Columns.{countedOf, blankVariable, variableAt, withRecord, columnsTo, columnsOf}
+
+to-count : (vs : List Variable) (k : ℕ) → columnsTo vs k .count ≡ length vs
+unfolding columnsTo
+to-count vs zero = refl
+to-count vs (suc k) = to-count vs k
+
+-- all are counted
+pub columns-count : (vs : List Variable) → columnsOf vs .count ≡ length vs
+columns-count vs = to-count vs (min (length vs) 64)
+
+-- a column: at each place the record's number
+module _ (vs : List Variable) (column : Records → List ℕ) (field : Variable → ℕ) (start : (n : ℕ) → length (column (countedOf n)) ≡ 64)
+    (put : (r : Records) (i : ℕ) (v : Variable) → column (withRecord r i v) ≡ set (column r) i (field v)) where
+  column-length : (k : ℕ) → length (column (columnsTo vs k)) ≡ 64
+  unfolding columnsTo
+  column-length zero = start (length vs)
+  column-length (suc k) =
+      ap length (put (columnsTo vs k) k (variableAt vs k)) ∙ length-set (column (columnsTo vs k)) k (field (variableAt vs k)) ∙ column-length k
+
+  column-at : (k i : ℕ) → k ≤ 64 → i < k → getD (column (columnsTo vs k)) i 0 ≡ field (variableAt vs i)
+  unfolding columnsTo
+  column-at zero i h l = absurd (not-suc-le-zero l)
+  column-at (suc k) i h l =
+      ap (λ (xs : List ℕ). getD xs i 0) (put (columnsTo vs k) k (variableAt vs k)) ∙ elim (eq-or-lt-of-le (le-of-suc-le-suc l)) [
+        | inl e ↦ subst (λ (j : ℕ). getD (set (column (columnsTo vs k)) k (field (variableAt vs k))) j 0 ≡ field (variableAt vs j)) (sym e)
+            (getD-set-same (column (columnsTo vs k)) k (field (variableAt vs k)) 0 (omega (arith, column-length k)))
+        | inr m ↦ getD-set-other (column (columnsTo vs k)) k i (field (variableAt vs k)) 0 (λ e. omega (arith, m, e)) ∙ column-at k i (omega arith) m
+      ]
+
+stored-at : (vs : List Variable) (i : ℕ) → length vs ≤ 64 → i < length vs → recordAt (columnsOf vs) i ≡ variableAt vs i
+stored-at vs i h l =
+    let k = min (length vs) 64 in
+    let w = column-at vs (λ r. r .writable) (λ v. v .writable) (λ n. refl) (λ r j v. refl) k i (omega arith) (omega arith) in
+    let s = column-at vs (λ r. r .sizes) (λ v. v .size) (λ n. refl) (λ r j v. refl) k i (omega arith) (omega arith) in
+    let t = column-at vs (λ r. r .kinds) (λ v. v .kind) (λ n. refl) (λ r j v. refl) k i (omega arith) (omega arith) in
+    λ j. record { writable = w j; size = s j; kind = t j }
+
+-- 64 or fewer are all there
+pub columns-records : (vs : List Variable) → length vs ≤ 64 → recordsOf (columnsOf vs) ≡ vs
+columns-records vs h =
+    let n : length (recordsOf (columnsOf vs)) ≡ length vs = sym (record-count (columnsOf vs)) ∙ columns-count vs in
+    ext-getD blankVariable (recordsOf (columnsOf vs)) vs n
+    (λ i l. sym (record-at (columnsOf vs) i (omega (arith, columns-count vs))) ∙ stored-at vs i h (omega (arith, n)))
+
+-- so whatever is the same for all lists that are too long is the same of the columns' records and of the lent ones
+pub columns-same : {X : Type 0} (of : List Variable → X) (x : X) → ((us : List Variable) → 64 < length us → of us ≡ x)
+    → (vs : List Variable) → of (recordsOf (columnsOf vs)) ≡ of vs
+columns-same of x long vs = by (decLt 64 (length vs))
+  where
+    n : length (recordsOf (columnsOf vs)) ≡ length vs
+    n = sym (record-count (columnsOf vs)) ∙ columns-count vs
+
+    by : Dec (64 < length vs) → of (recordsOf (columnsOf vs)) ≡ of vs
+    by (yes k) = long (recordsOf (columnsOf vs)) (omega (arith, n)) ∙ sym (long vs k)
+    by (no k) = ap of (columns-records vs (omega arith))

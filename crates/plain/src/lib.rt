@@ -1,0 +1,276 @@
+// The work of each entry on numbers, slices and plain structs: its ending is said in plain numbers, and variables and functions are named
+// by them.
+use bsmp::FunctionNumber;
+use bsmp::Outcome;
+use bsmp::VariableNumber;
+use readings::SignedReading;
+use readings::UnsignedReading;
+use readings::Writing;
+use records::Groups;
+use records::Records;
+use results::Ran;
+use results::Stored;
+ghost use mathlib.Core.Path.{_≡_};
+ghost use mathlib.Core.Bool.{true, false};
+ghost use lib.IntN.{pos};
+ghost use Rattle.records.specs.Lending.{recordsOf};
+ghost use Rattle.readings.specs.Answers.{signedReadingOf, unsignedReadingOf};
+ghost use Rattle.plain.specs.Lending.{lending};
+ghost use Rattle.plain.specs.Numbers.{plainOutcomeOf, ranFrom, storedNumber, writingNumber, plainReadingOf, signedSays, unsignedSays};
+ghost use Rattle.plain.specs.Calls.{plainPacketLeft, packetOf, plainResultLeft, resultOf, plainBytesLeft, storeOf, writingOf, readingOf};
+
+// How a call ends: kind 0 a reply of `length` bytes, 1 silence, 2 a function to be run with `length` bytes of input from place
+// `input` of the packet on, 3 a local refusal with 01's number. What a kind has no use for is 0.
+#[repr(C)]
+pub struct PlainOutcome {
+    pub kind: u8,
+    pub refusal: u8,
+    pub due: bool,
+    pub function: usize,
+    pub input: usize,
+    pub length: usize,
+}
+
+// Bytes to number: refusal 0 and the number, or 01's number of the refusal and 0.
+#[repr(C)]
+pub struct PlainSignedReading {
+    pub refusal: u64,
+    pub number: i64,
+}
+
+#[repr(C)]
+pub struct PlainUnsignedReading {
+    pub refusal: u64,
+    pub number: u64,
+}
+
+impl PlainOutcome {
+    pub const REPLY: u8 = 0;
+
+    pub const SILENCE: u8 = 1;
+
+    pub const RUN: u8 = 2;
+
+    pub const REFUSED: u8 = 3;
+}
+
+pub fn outcome_of(outcome: Outcome) -> PlainOutcome
+    ensures { λ r. ⌜ r ≡ plainOutcomeOf outcome ⌝ }
+{
+    match outcome {
+        Outcome::Reply(length) => PlainOutcome {
+            kind: PlainOutcome::REPLY,
+            refusal: 0,
+            due: false,
+            function: 0,
+            input: 0,
+            length,
+        },
+        Outcome::Silence => PlainOutcome {
+            kind: PlainOutcome::SILENCE,
+            refusal: 0,
+            due: false,
+            function: 0,
+            input: 0,
+            length: 0,
+        },
+        Outcome::Run {
+            function,
+            input,
+            due,
+        } => PlainOutcome {
+            kind: PlainOutcome::RUN,
+            refusal: 0,
+            due,
+            function: function.0,
+            input: 5,
+            length: input,
+        },
+        Outcome::Refused(refusal) => PlainOutcome {
+            kind: PlainOutcome::REFUSED,
+            refusal: refusal.number(),
+            due: false,
+            function: 0,
+            input: 0,
+            length: 0,
+        },
+    }
+}
+
+pub fn stored_number(stored: Stored) -> u8
+    ensures { λ r. ⌜ r ≡ storedNumber stored ⌝ }
+{
+    match stored {
+        Stored::Done => 0,
+        Stored::Refused(refusal) => refusal.number(),
+    }
+}
+
+pub fn writing_number(writing: Writing) -> u8
+    ensures { λ r. ⌜ r ≡ writingNumber writing ⌝ }
+{
+    match writing {
+        Writing::Done => 0,
+        Writing::Refused(refusal) => refusal.number(),
+    }
+}
+
+pub fn signed_of(reading: SignedReading) -> PlainSignedReading
+    ensures { λ r. ⌜ signedSays r ≡ plainReadingOf (signedReadingOf reading) ⌝ }
+{
+    match reading {
+        SignedReading::Is(number) => PlainSignedReading { refusal: 0, number },
+        SignedReading::Refused(refusal) => PlainSignedReading {
+            refusal: refusal.number() as u64,
+            number: 0,
+        },
+    }
+}
+
+pub fn unsigned_of(reading: UnsignedReading) -> PlainUnsignedReading
+    ensures { λ r. ⌜ unsignedSays r ≡ plainReadingOf (unsignedReadingOf reading) ⌝ }
+{
+    match reading {
+        UnsignedReading::Is(number) => PlainUnsignedReading { refusal: 0, number },
+        UnsignedReading::Refused(refusal) => PlainUnsignedReading {
+            refusal: refusal.number() as u64,
+            number: 0,
+        },
+    }
+}
+
+// How a function ran: an error byte counts only where it failed.
+pub fn ran_of(failed: bool, error: u8) -> Ran
+    ensures { λ r. ⌜ r ≡ ranFrom failed error ⌝ }
+{
+    if failed {
+        return Ran::Failed(error);
+    }
+    Ran::Gave
+}
+
+// What a packet comes to: how it ends, and the group table.
+pub struct PlainDone {
+    pub outcome: PlainOutcome,
+    pub groups: Groups,
+}
+
+pub fn packet(
+    records: Records,
+    curves: &[u32],
+    functions: &[u8],
+    groups: Groups,
+    own: u8,
+    multicast: u8,
+    busy: u64,
+    values: &mut [u8],
+    blocks: &mut [u8],
+    request: &[u8],
+    reply: &mut [u8],
+) -> PlainDone
+    ensures { λ r. let board = lending (recordsOf records) (now (curves .entry)) (now (functions .entry)) groups (now (values .entry)) (now (blocks .entry)) in
+        ⌜ plainPacketLeft (r .outcome) (r .groups) (now (reply .exit)) (now (values .exit)) (now (blocks .exit))
+        ≡ packetOf board own multicast busy (now (request .entry)) (now (reply .entry)) ⌝ }
+{
+    let done = node::packet(
+        records,
+        curves,
+        functions,
+        groups,
+        own,
+        multicast,
+        busy,
+        values,
+        blocks,
+        request,
+        reply,
+    );
+    let ending = done.outcome;
+    let groups = done.groups;
+    let outcome = outcome_of(ending);
+    PlainDone { outcome, groups }
+}
+
+pub fn function_result(
+    records: Records,
+    curves: &[u32],
+    functions: &[u8],
+    groups: Groups,
+    values: &[u8],
+    blocks: &[u8],
+    function: usize,
+    due: bool,
+    failed: bool,
+    error: u8,
+    output: &[u8],
+    reply: &mut [u8],
+) -> PlainOutcome
+    ensures { λ r. let board = lending (recordsOf records) (now (curves .entry)) (now (functions .entry)) groups (now (values .entry)) (now (blocks .entry)) in
+        ⌜ plainResultLeft r (now (reply .exit)) ≡ resultOf board function due failed error (now (output .entry)) (now (reply .entry)) ⌝ }
+{
+    let ran = ran_of(failed, error);
+    let outcome = results::function_result(
+        records,
+        curves,
+        functions,
+        groups,
+        values,
+        blocks,
+        FunctionNumber(function),
+        due,
+        ran,
+        output,
+        reply,
+    );
+    outcome_of(outcome)
+}
+
+pub fn board_store(
+    records: Records,
+    curves: &[u32],
+    functions: &[u8],
+    groups: Groups,
+    values: &mut [u8],
+    blocks: &[u8],
+    variable: usize,
+    bytes: &[u8],
+) -> u8
+    ensures { λ r. let board = lending (recordsOf records) (now (curves .entry)) (now (functions .entry)) groups (now (values .entry)) (now (blocks .entry)) in
+        ⌜ plainBytesLeft r (now (values .exit)) ≡ storeOf board variable (now (bytes .entry)) ⌝ }
+{
+    let stored = results::board_store(
+        records,
+        curves,
+        functions,
+        groups,
+        values,
+        blocks,
+        VariableNumber(variable),
+        bytes,
+    );
+    stored_number(stored)
+}
+
+pub fn read_signed(records: Records, variable: usize, bytes: &[u8]) -> PlainSignedReading
+    ensures { λ r. ⌜ signedSays r ≡ readingOf (recordsOf records) variable true (now (bytes .entry)) ⌝ }
+{
+    signed_of(readings::read_signed(records, VariableNumber(variable), bytes))
+}
+
+pub fn read_unsigned(records: Records, variable: usize, bytes: &[u8]) -> PlainUnsignedReading
+    ensures { λ r. ⌜ unsignedSays r ≡ readingOf (recordsOf records) variable false (now (bytes .entry)) ⌝ }
+{
+    unsigned_of(readings::read_unsigned(records, VariableNumber(variable), bytes))
+}
+
+pub fn write_signed(records: Records, variable: usize, number: i64, buffer: &mut [u8]) -> u8
+    ensures { λ r. ⌜ plainBytesLeft r (now (buffer .exit)) ≡ writingOf (recordsOf records) variable true number (now (buffer .entry)) ⌝ }
+{
+    writing_number(readings::write_signed(records, VariableNumber(variable), number, buffer))
+}
+
+pub fn write_unsigned(records: Records, variable: usize, number: u64, buffer: &mut [u8]) -> u8
+    ensures { λ r. ⌜ plainBytesLeft r (now (buffer .exit)) ≡ writingOf (recordsOf records) variable false (pos number) (now (buffer .entry)) ⌝ }
+{
+    writing_number(readings::write_unsigned(records, VariableNumber(variable), number, buffer))
+}

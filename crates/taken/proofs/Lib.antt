@@ -1,3 +1,0 @@
-pub mod Taken
-pub mod Walk
-pub mod Byte
