@@ -5,10 +5,12 @@ use mathlib.Core.List.{List}
 use Prim.Native.Nat.{ℕ}
 use native.Mathlib.Omega.{arith}
 use Rattle.bsmp.specs.Board.{Table, Layout, layout, State, blockSizes, faults}
-use Rattle.bsmp.specs.Message.{Said, replies, runs, carried, stateAfter, handled, asked, judge}
-use Rattle.bsmp.specs.Packet.{Place, Ending, reply, silence, run, refuse, ends, placeTests, packetTests, served, packet, resultTests, functionResult, storeTests, boardStore, isOwn, destination}
+use Rattle.bsmp.specs.Message.{Said, replies, runs, after, carried, stateAfter, handled, asked, judge}
+use Rattle.bsmp.specs.Packet.{Place, Ending, reply, silence, run, Result, refuse, Ran, ends, placeTests, packetTests, served, packet, resultTests, functionResult, storeTests, boardStore, isOwn, destination}
 use Rattle.bsmp.specs.Store.{Lent, held, lentOf, outcomeOf, shown}
 use Rattle.bsmp.specs.Apart.{Event, arrives, returns, stores, happen, Call, eventOf, bufferOf, leftBy}
+use Rattle.bsmp.specs.declared.VariableNumber.{VariableNumber}
+use Rattle.bsmp.specs.declared.FunctionNumber.{FunctionNumber}
 use Rattle.bsmp.specs.declared.Refusal.{Refusal}
 use Rattle.bsmp.specs.declared.WireError.{WireError}
 use Rattle.bsmp.specs.declared.Check.the-variants.{Fail}
@@ -55,6 +57,20 @@ outcome-refused (reply b) r h = cc
 outcome-refused silence r h = cc
 outcome-refused (run f i due) r h = cc
 outcome-refused (Ending.refused m) r h = cc
+
+-- a function's result changes nothing that the board holds, a board store no block and no group
+pub result-keeps : (t : Table) (room : ℕ) (f : FunctionNumber) (due : Bool) (r : Ran) (s : State) → functionResult t room f due r s .state ≡ s
+unfolding functionResult
+result-keeps t room f due r s =
+    first-case (λ x. x .state ≡ s) (faults t s) (refuse s) _ (λ m. refl)
+    (λ b. first-case (λ x. x .state ≡ s) (resultTests (layout t) room f r) (refuse s) _ (λ m. refl) (λ c. refl))
+
+pub store-keeps : (t : Table) (i : VariableNumber) (b : List ℕ) (s : State)
+    → (s .blocks ≡ boardStore t i b s .state .blocks) × (s .groups ≡ boardStore t i b s .state .groups)
+unfolding boardStore after
+store-keeps t i b s =
+    let Kept : Result → Type 0 = λ x. (s .blocks ≡ x .state .blocks) × (s .groups ≡ x .state .groups) in
+    first-case Kept (faults t s) (refuse s) _ (λ m. (refl, refl)) (λ d. first-case Kept (storeTests (layout t) i b) (refuse s) _ (λ m. (refl, refl)) (λ c. (refl, refl)))
 
 -- the same over what is lent: no byte of any store, group table or buffer, whatever their lengths
 pub refusal-keeps-lent : (t : Table) (a : Place) (c : Call) (x : Lent) (r : Refusal) → leftBy t a c x .outcome ≡ Refused r

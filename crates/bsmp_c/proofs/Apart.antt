@@ -12,10 +12,9 @@ use lib.Dec.{eqb}
 use lib.ListN.{length, take, drop, getD, length-take, length-append}
 use lib.Seq.{take-take, take-append-seam}
 use Rattle.bsmp.specs.Base.{join}
-use Rattle.bsmp.specs.Board.{Table, layout, State, blockSizes, usable, variable, function}
-use Rattle.bsmp.specs.Packet.{Place, refuse, resultTests, storeTests, functionResult, boardStore}
+use Rattle.bsmp.specs.Board.{Table, layout, State, blockSizes, usable, faults, variable, function}
+use Rattle.bsmp.specs.Packet.{Place, Result, refuse, storeTests, boardStore}
 use Rattle.bsmp.specs.Packet as P
-use Rattle.bsmp.specs.Message as Message
 use Rattle.bsmp.specs.Store.{Lent, held, lentOf, bytesIn, Left, leaves}
 use Rattle.bsmp.specs.Apart.{happen, reads, Call, packetIn, resultIn, storeIn, eventOf, leftBy, Seen, answerIn, seenOf, seenAll, lentAfter, LentAlike, unread}
 use Rattle.bsmp.specs.declared.VariableNumber.{VariableNumber}
@@ -25,6 +24,7 @@ use Rattle.bsmp.specs.declared.Outcome.{Outcome}
 use Rattle.bsmp.specs.declared.Outcome.the-variants as O
 use Rattle.bsmp.specs.Codes.{refusalNumber}
 use Rattle.bsmp.proofs.Chain.{first-case}
+use Rattle.bsmp.proofs.Keeps.{result-keeps, store-keeps}
 use Rattle.bsmp.proofs.Store.{join-cut}
 use Rattle.bsmp.proofs.Stays.{stays, held-again}
 use Rattle.bsmp.proofs.Lent.{lent-before, lent-apart}
@@ -113,10 +113,6 @@ module _ (x : Lending) (own multicast busy : ℕ) (request reply : List ℕ) (u 
       }
 
 -- `bsmp_function_result`, on any board: nothing that the board holds changes -----------------------------------------------
-result-keeps : (t : Table) (n : ℕ) (f : FunctionNumber) (due : Bool) (r : P.Ran) (s : State) → functionResult t n f due r s .state ≡ s
-unfolding functionResult
-result-keeps t n f due r s = first-case (λ x. x .state ≡ s) (resultTests (usable t s) (layout t) n f r) (refuse s) _ (λ m. refl) (λ c. refl)
-
 pub result-gives : (x : Lending) (a : Place) (f : ℕ) (due failed : Bool) (error : ℕ) (output reply : List ℕ) (o : PlainOutcome) (reply′ : List ℕ)
     → plainResultLeft o reply′ ≡ resultOf x f due failed error output reply
     → Gives (tableIn x) a (turn (resultIn (function f) due (ranOf (ranFrom failed error) output) reply) (plainSeen o reply′) (lentIn x)) (lentIn x)
@@ -136,15 +132,8 @@ store-seen : (t : Table) (i : VariableNumber) (b : List ℕ) (s : State)
     → numberSeen (storedNumber (storedOf (boardStore t i b s .ending))) ≡ plainSeenOf (seenOf (leaves (boardStore t i b s) []))
 unfolding boardStore
 store-seen t i b s =
-    first-case (λ x. numberSeen (storedNumber (storedOf (x .ending))) ≡ plainSeenOf (seenOf (leaves x [])))
-    (storeTests (usable t s) (layout t) i b) (refuse s) _ number-refused (λ c. refl)
-
-store-keeps : (t : Table) (i : VariableNumber) (b : List ℕ) (s : State)
-    → (s .blocks ≡ boardStore t i b s .state .blocks) × (s .groups ≡ boardStore t i b s .state .groups)
-unfolding boardStore Message.after
-store-keeps t i b s =
-    first-case (λ x. (s .blocks ≡ x .state .blocks) × (s .groups ≡ x .state .groups))
-    (storeTests (usable t s) (layout t) i b) (refuse s) _ (λ m. (refl, refl)) (λ c. (refl, refl))
+    let Said : Result → Type 0 = λ x. numberSeen (storedNumber (storedOf (x .ending))) ≡ plainSeenOf (seenOf (leaves x [])) in
+    first-case Said (faults t s) (refuse s) _ number-refused (λ d. first-case Said (storeTests (layout t) i b) (refuse s) _ number-refused (λ c. refl))
 
 pub store-gives : (x : Lending) (a : Place) (i : ℕ) (bytes : List ℕ) (n : ℕ) (values′ : List ℕ) → plainBytesLeft n values′ ≡ storeOf x i bytes
     → Gives (tableIn x) a (turn (storeIn (variable i) bytes) (numberSeen n) (lent values′ (x .blocks) (groupsOf (x .groups)))) (lentIn x)

@@ -12,10 +12,12 @@ use Rattle.bsmp.specs.Number.{Reading, Written, reading, writing}
 use Rattle.bsmp.specs.declared.Variable.{Variable}
 use Rattle.bsmp.specs.declared.Refusal.the-variants.{BoardUnusable}
 use Rattle.bsmp.specs.declared.Outcome.the-variants as O
+use Rattle.bsmp.proofs.Bools.{not-so}
 use Rattle.bsmp.proofs.Chain.{first-stop}
+use Rattle.bsmp.proofs.Usable.{not-usable, faults-some}
 use Rattle.bsmp.proofs.Store.{join-cut}
 use Rattle.records.specs.Lending.{recordsOf, groupsOf}
-use Rattle.records.proofs.Sound.{usable-sound, variables-most}
+use Rattle.records.proofs.Sound.{variables-most}
 use Rattle.wire.specs.Opening.{placed}
 use Rattle.node.specs.Promise.{tableWith, lasting}
 use Rattle.results.specs.Results.{resultLeft, resultLeftOf, storeLeft, storeLeftOf}
@@ -35,15 +37,11 @@ abbrev pub byColumns : Lending → Lending
 byColumns x = withVariables (recordsOf (columnsOf (x .variables))) x
 
 -- more than 64 records break a rule
-broken : (b : Bool) → (b ≡ true → ⊥) → not b ≡ true
-broken true h = absurd (h refl)
-broken false h = refl
-
 long-variables : (vs : List Variable) → 64 < length vs → not (usableVariables vs) ≡ true
-long-variables vs h = broken (usableVariables vs) (λ e. omega (arith, variables-most vs e))
+long-variables vs h = ap not (not-so (usableVariables vs) (λ e. omega (arith, variables-most vs e)))
 
-long-board : (x : Lending) → 64 < length (x .variables) → not (usable (tableIn x) (heldIn x)) ≡ true
-long-board x h = broken (usable (tableIn x) (heldIn x)) (λ e. omega (arith, variables-most (x .variables) (usable-sound (tableIn x) (lentIn x) e .variables)))
+long-board : (x : Lending) → 64 < length (x .variables) → usable (tableIn x) (heldIn x) ≡ false
+long-board x h = not-usable (tableIn x) (heldIn x) (λ u. omega (arith, variables-most (x .variables) (u .variables)))
 
 -- so a call on more of them is refused, and leaves all as it was
 module _ (x : Lending) (own multicast busy : ℕ) (request reply : List ℕ) where
@@ -57,7 +55,7 @@ module _ (x : Lending) (own multicast busy : ℕ) (request reply : List ℕ) whe
 
     stops : packet (tableIn y) (placed own multicast) busy (length reply) request (heldIn y) ≡ refuse (heldIn y) BoardUnusable
     unfolding packet
-    stops = sym (first-stop _ _ _ _ _ _ _ (long-board y h) refl)
+    stops = sym (faults-some (tableIn y) (heldIn y) _ _ _ (long-board y h) refl)
 
     long-packet : packetOf y own multicast busy request reply ≡ untouched
     long-packet =
@@ -80,7 +78,8 @@ result-same x f due failed error output reply =
 
     long : (us : List Variable) → 64 < length us → resultOf (withVariables us x) f due failed error output reply ≡ refused
     long us h =
-        sym (ap (λ (y : Result). plainResultLeftOf (resultLeftOf (y .ending) reply)) (first-stop _ _ _ _ _ _ _ (long-board (withVariables us x) h) refl))
+        let y : Lending = withVariables us x in
+        sym (ap (λ (z : Result). plainResultLeftOf (resultLeftOf (z .ending) reply)) (faults-some (tableIn y) (heldIn y) (refuse (heldIn y)) _ _ (long-board y h) refl))
 
 pub store-same : (x : Lending) (i : ℕ) (bytes : List ℕ) → storeOf (byColumns x) i bytes ≡ storeOf x i bytes
 unfolding boardStore
@@ -91,8 +90,9 @@ store-same x i bytes = columns-same (λ us. storeOf (withVariables us x) i bytes
 
     long : (us : List Variable) → 64 < length us → storeOf (withVariables us x) i bytes ≡ refused (x .values)
     long us h =
-        sym (ap (λ (y : Result). plainStoreLeftOf (storeLeftOf y)) (first-stop _ _ _ _ _ _ _ (long-board (withVariables us x) h) refl))
-        ∙ ap refused (join-cut (layout (tableIn (withVariables us x)) .sizes) (x .values))
+        let y : Lending = withVariables us x in
+        sym (ap (λ (z : Result). plainStoreLeftOf (storeLeftOf z)) (faults-some (tableIn y) (heldIn y) (refuse (heldIn y)) _ _ (long-board y h) refl))
+        ∙ ap refused (join-cut (layout (tableIn y) .sizes) (x .values))
 
 pub reading-same : (vs : List Variable) (i : ℕ) (signed : Bool) (bytes : List ℕ)
     → readingOf (recordsOf (columnsOf vs)) i signed bytes ≡ readingOf vs i signed bytes
