@@ -44,6 +44,12 @@ pub struct PlainUnsignedReading {
     pub number: u64,
 }
 
+// What a packet comes to: how it ends, and the group table.
+pub struct PlainDone {
+    pub outcome: PlainOutcome,
+    pub groups: Groups,
+}
+
 impl PlainOutcome {
     pub const REPLY: u8 = 0;
 
@@ -54,7 +60,7 @@ impl PlainOutcome {
     pub const REFUSED: u8 = 3;
 }
 
-pub fn outcome_of(outcome: Outcome) -> PlainOutcome
+fn outcome_of(outcome: Outcome) -> PlainOutcome
     ensures { λ r. ⌜ r ≡ plainOutcomeOf outcome ⌝ }
 {
     match outcome {
@@ -97,7 +103,7 @@ pub fn outcome_of(outcome: Outcome) -> PlainOutcome
     }
 }
 
-pub fn stored_number(stored: Stored) -> u8
+fn stored_number(stored: Stored) -> u8
     ensures { λ r. ⌜ r ≡ storedNumber stored ⌝ }
 {
     match stored {
@@ -106,7 +112,7 @@ pub fn stored_number(stored: Stored) -> u8
     }
 }
 
-pub fn writing_number(writing: Writing) -> u8
+fn writing_number(writing: Writing) -> u8
     ensures { λ r. ⌜ r ≡ writingNumber writing ⌝ }
 {
     match writing {
@@ -115,7 +121,7 @@ pub fn writing_number(writing: Writing) -> u8
     }
 }
 
-pub fn signed_of(reading: SignedReading) -> PlainSignedReading
+fn signed_of(reading: SignedReading) -> PlainSignedReading
     ensures { λ r. ⌜ signedSays r ≡ plainReadingOf (signedReadingOf reading) ⌝ }
 {
     match reading {
@@ -127,7 +133,7 @@ pub fn signed_of(reading: SignedReading) -> PlainSignedReading
     }
 }
 
-pub fn unsigned_of(reading: UnsignedReading) -> PlainUnsignedReading
+fn unsigned_of(reading: UnsignedReading) -> PlainUnsignedReading
     ensures { λ r. ⌜ unsignedSays r ≡ plainReadingOf (unsignedReadingOf reading) ⌝ }
 {
     match reading {
@@ -140,19 +146,13 @@ pub fn unsigned_of(reading: UnsignedReading) -> PlainUnsignedReading
 }
 
 // How a function ran: an error byte counts only where it failed.
-pub fn ran_of(failed: bool, error: u8) -> Ran
+fn ran_of(failed: bool, error: u8) -> Ran
     ensures { λ r. ⌜ r ≡ ranFrom failed error ⌝ }
 {
     if failed {
         return Ran::Failed(error);
     }
     Ran::Gave
-}
-
-// What a packet comes to: how it ends, and the group table.
-pub struct PlainDone {
-    pub outcome: PlainOutcome,
-    pub groups: Groups,
 }
 
 pub fn packet(
