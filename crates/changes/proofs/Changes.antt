@@ -9,12 +9,14 @@ use Rattle.bsmp.specs.Board.{Layout, sizeOf, members}
 use Rattle.bsmp.specs.Message.{nothing, edit, fill, regroup, variableAt, groupAt, line, edited, filled, after}
 use Rattle.bsmp.specs.Store.{Lent, held}
 use Rattle.bsmp.specs.declared.VariableNumber.{VariableNumber}
+use Rattle.bsmp.specs.declared.Curve.{Curve}
+use Rattle.bsmp.specs.declared.Function.{Function}
 use Rattle.bsmp.specs.declared.Operation.{Operation}
 use Rattle.bsmp.specs.declared.Operation.the-variants.{Replace}
 use Rattle.bsmp.specs.declared.Command.{Command}
 use Rattle.bsmp.specs.declared.Command.the-variants.{WriteVariable, WriteGroup, MaskVariable, MaskGroup, WriteRead, MakeGroup, RemoveGroups, WriteBlock}
 use Rattle.sets.specs.Promises.{Below, Named}
-use Rattle.parts.specs.Parts.{variablesOnly, Passed}
+use Rattle.parts.specs.Parts.{layoutOf, variablesOnly, Passed}
 use Rattle.records.specs.Lending.{lent}
 use Rattle.variables.specs.Fits.{OneFits}
 use Rattle.variables.proofs.Passes as variables
@@ -27,37 +29,40 @@ use Rattle.changes.specs.Changes.{regrouped, ChangedBy}
 use Rattle.changes.specs.declared.Regroup.{Regroup}
 use Rattle.changes.specs.declared.Regroup.the-variants.{Keep, Make, Remove}
 
-module _ (l : Layout) (gs p : List ℕ) (k : Command) where
-  as-command : (c : Command) → k ≡ c → Passed l gs p k → Passed l gs p c
-  as-command c e h = rw e at h
+as-command : (l : Layout) (gs p : List ℕ) (k c : Command) → k ≡ c → Passed l gs p k → Passed l gs p c
+as-command l gs p k c e h = rw e at h
+
+module _ (ns : List ℕ) (w : ℕ) (cs : List Curve) (fs : List Function) (gs p : List ℕ) (k : Command) where
+  abbrev Passes : Type 0
+  Passes = Passed (layoutOf ns w cs fs) gs p k
 
   -- what a pass says, as the changes ask it
-  pub write-needs : k ≡ WriteVariable → Passed l gs p k → OneFits (l .sizes) p 1
-  write-needs e h = variables.write-fits _ _ _ _ gs p (as-command WriteVariable e h)
+  pub write-needs : k ≡ WriteVariable → Passes → OneFits ns p 1
+  write-needs e h = variables.write-fits ns w cs fs gs p (as-command _ _ _ _ WriteVariable e h)
 
-  pub mask-needs : k ≡ MaskVariable → Passed l gs p k → OneFits (l .sizes) p 2
-  mask-needs e h = variables.mask-fits _ _ _ _ gs p (as-command MaskVariable e h)
+  pub mask-needs : k ≡ MaskVariable → Passes → OneFits ns p 2
+  mask-needs e h = variables.mask-fits ns w cs fs gs p (as-command _ _ _ _ MaskVariable e h)
 
-  pub mask-operation : k ≡ MaskVariable → Passed l gs p k → 1 < length p
-  mask-operation e h = variables.mask-second _ _ _ _ gs p (as-command MaskVariable e h)
+  pub mask-operation : k ≡ MaskVariable → Passes → 1 < length p
+  mask-operation e h = variables.mask-second ns w cs fs gs p (as-command _ _ _ _ MaskVariable e h)
 
-  pub write-read-needs : k ≡ WriteRead → Passed l gs p k → OneFits (l .sizes) p 2
-  write-read-needs e h = variables.write-read-fits _ _ _ _ gs p (as-command WriteRead e h)
+  pub write-read-needs : k ≡ WriteRead → Passes → OneFits ns p 2
+  write-read-needs e h = variables.write-read-fits ns w cs fs gs p (as-command _ _ _ _ WriteRead e h)
 
-  pub group-write-needs : k ≡ WriteGroup → Passed l gs p k → GroupFits (variablesOnly (l .sizes) (l .writable)) gs p 1
-  group-write-needs e h = groups.write-fits _ _ _ _ gs p (as-command WriteGroup e h)
+  pub group-write-needs : k ≡ WriteGroup → Passes → GroupFits (variablesOnly ns w) gs p 1
+  group-write-needs e h = groups.write-fits ns w cs fs gs p (as-command _ _ _ _ WriteGroup e h)
 
-  pub group-mask-needs : k ≡ MaskGroup → Passed l gs p k → GroupFits (variablesOnly (l .sizes) (l .writable)) gs p 2
-  group-mask-needs e h = groups.mask-fits _ _ _ _ gs p (as-command MaskGroup e h)
+  pub group-mask-needs : k ≡ MaskGroup → Passes → GroupFits (variablesOnly ns w) gs p 2
+  group-mask-needs e h = groups.mask-fits ns w cs fs gs p (as-command _ _ _ _ MaskGroup e h)
 
-  pub group-mask-operation : k ≡ MaskGroup → Passed l gs p k → 1 < length p
-  group-mask-operation e h = groups.mask-some _ _ _ _ gs p (as-command MaskGroup e h)
+  pub group-mask-operation : k ≡ MaskGroup → Passes → 1 < length p
+  group-mask-operation e h = groups.mask-some ns w cs fs gs p (as-command _ _ _ _ MaskGroup e h)
 
-  pub block-needs : k ≡ WriteBlock → Passed l gs p k → BlockFits (l .curves) p
-  block-needs e h = curves.write-fits _ _ _ _ gs p (as-command WriteBlock e h)
+  pub block-needs : k ≡ WriteBlock → Passes → BlockFits cs p
+  block-needs e h = curves.write-fits ns w cs fs gs p (as-command _ _ _ _ WriteBlock e h)
 
-  pub make-needs : (x : Lent) → SoundBoard l x → k ≡ MakeGroup → Passed l gs p k → Below 64 p
-  make-needs x s e h = groups.make-below _ _ _ _ gs p (as-command MakeGroup e h) (s .variables .few)
+  pub make-needs : (x : Lent) → SoundBoard (layoutOf ns w cs fs) x → k ≡ MakeGroup → Passes → Below 64 p
+  make-needs x s e h = groups.make-below ns w cs fs gs p (as-command _ _ _ _ MakeGroup e h) (s .variables .few)
 
 -- what is then left of what is lent
 module _ (l : Layout) (x : Lent) where
