@@ -17,8 +17,8 @@ use Rattle.bsmp.specs.declared.Check.the-variants.{Pass, Fail}
 use Rattle.lists.proofs.Put.{mid-rest}
 use Rattle.records.specs.Lending.{lent}
 use Rattle.variables.proofs.One.{sound-kept}
-use Rattle.judging.specs.Judging.{SoundBoard, Judgement}
-use Rattle.changes.specs.Changes.{ChangedBy}
+use Rattle.judging.specs.Judging.{SoundBoard}
+use Rattle.changes.specs.Changes.{withRegroup, ChangedBy}
 use Rattle.changes.specs.declared.Regroup.{Regroup}
 use Rattle.changes.specs.declared.Regroup.the-variants.{Keep}
 use Rattle.answers.specs.Answers.{Spoke}
@@ -30,14 +30,17 @@ use Rattle.serve.proofs.Silence.{unheard, long-enough}
 
 -- a message judged and carried out
 module _ (l : Layout) (busy : ℕ) (m : List ℕ) (x : Lent) (v : Check) (q : v ≡ judge l (x .groups) busy m) where
-  pub performed-pass : (k : Command) (r : Regroup) (y : Lent) → v ≡ Pass → k ≡ commandOf (byteAt m 0)
-      → ChangedBy l x (line l (x .groups) (midOf 3 (length m - 3) m) k .change) r y → PerformedAs l busy m x v r y
+  performed : (g : Regroup) (y : Lent) → held l (withRegroup g y) ≡ stateAfter (asked l (x .groups) m) v (held l x) → PerformedAs l busy m x v g y
+  performed g y h = record { check = q; judgement = record { marks = busy; judged = q }; holds = rw q at h }
+
+  pub performed-pass : (k : Command) (g : Regroup) (y : Lent) → v ≡ Pass → k ≡ commandOf (byteAt m 0)
+      → ChangedBy l x (line l (x .groups) (midOf 3 (length m - 3) m) k .change) g y → PerformedAs l busy m x v g y
   unfolding stateAfter
-  performed-pass k r y e f h = record { check = q; holds = rw (← q, e, ← f, ← mid-rest 3 m) (h .holds) }
+  performed-pass k g y e f h = performed g y (rw (e, ← f, ← mid-rest 3 m) (h .holds))
 
   pub performed-fail : (e : WireError) → v ≡ Fail e → PerformedAs l busy m x v Keep x
   unfolding stateAfter
-  performed-fail e h = record { check = q; holds = rw (← q, h) }
+  performed-fail e h = performed Keep x (rw h)
 
 -- what is said to it, where an answer is due
 module _ (l : Layout) (gs m : List ℕ) (v : Check) (s : State) (r : List ℕ) (at : ℕ) (t : Spoken) where
@@ -63,12 +66,9 @@ unfolding said
 said-alike l (Fail x) s s′ e f = refl
 said-alike l Pass s s′ e f = spoken-alike (l .answer) s s′ e f
 
--- what was carried out was judged, and is long enough to be looked at again
-pub judged : (l : Layout) (busy : ℕ) (m vs bs gs : List ℕ) (v : Check) (r : Regroup) (y : Lent) → PerformedAs l busy m (lent vs bs gs) v r y → Judgement l gs m v
-judged l busy m vs bs gs v r y h = record { marks = busy; judged = h .check }
-
-pub judged-long : (l : Layout) (busy : ℕ) (m : List ℕ) (x : Lent) (v : Check) (r : Regroup) (y : Lent) → PerformedAs l busy m x v r y → LongEnough v m
-judged-long l busy m x v r y h = long-enough v m l (x .groups) busy (h .check)
+-- what was carried out is long enough to be looked at again
+pub judged-long : (l : Layout) (busy : ℕ) (m : List ℕ) (x : Lent) (v : Check) (g : Regroup) (y : Lent) → PerformedAs l busy m x v g y → LongEnough v m
+judged-long l busy m x v g y h = long-enough v m l (x .groups) busy (h .check)
 
 -- the board is as sound after a change of its stores
 pub still-sound : (l : Layout) (vs bs gs vs′ bs′ : List ℕ) → SoundBoard l (lent vs bs gs) → length vs′ ≡ length vs → length bs′ ≡ length bs
@@ -84,7 +84,7 @@ still-sound l vs bs gs vs′ bs′ h e f = record {
 -- the whole work of a message
 module _ (l : Layout) (busy : ℕ) (m : List ℕ) (x : Lent) (r : List ℕ) (at : ℕ) (v : Check) (g : Regroup) (y : Lent) (h : PerformedAs l busy m x v g y) where
   served : (due : Bool) (s : Spoken) (r′ : List ℕ) → Spoke due (said (asked l (x .groups) m) v (held l y)) r at s r′
-      → ServedAs due l busy m x r at (record { said = s; regroup = g }) r′ y
+      → ServedAs due l busy m x r at s g r′ y
   unfolding handled carried
   served due s r′ w =
       let s′ : State = stateAfter (asked l (x .groups) m) (judge l (x .groups) busy m) (held l x) in
@@ -94,8 +94,8 @@ module _ (l : Layout) (busy : ℕ) (m : List ℕ) (x : Lent) (r : List ℕ) (at 
       record { spoke = rw e at w; holds = h .holds }
 
   pub served-due : (due : Bool) (s : Spoken) (r′ : List ℕ) → due ≡ true → Spoke true (said (asked l (x .groups) m) v (held l y)) r at s r′
-      → ServedAs due l busy m x r at (record { said = s; regroup = g }) r′ y
+      → ServedAs due l busy m x r at s g r′ y
   served-due due s r′ d w = rw d (served true s r′ w)
 
-  pub served-quiet : (due : Bool) (s : Spoken) → due ≡ false → Unanswered v m s → ServedAs due l busy m x r at (record { said = s; regroup = g }) r y
+  pub served-quiet : (due : Bool) (s : Spoken) → due ≡ false → Unanswered v m s → ServedAs due l busy m x r at s g r y
   served-quiet due s d u = rw d (served false s r (unheard (said (asked l (x .groups) m) v (held l y)) r at s (u .is l (x .groups) (held l y))))

@@ -18,12 +18,12 @@ use Rattle.changes.specs.Changes.{withRegroup}
 use Rattle.changes.specs.declared.Regroup.{Regroup}
 use Rattle.answers.specs.Answers.{spokenOf, Spoke}
 use Rattle.answers.specs.declared.Spoken.{Spoken}
-use Rattle.serve.specs.declared.Served.{Served}
 
--- a message judged and carried out: x was lent, and y is what is left of it
-pub record PerformedAs (l : Layout) (busy : ℕ) (m : List ℕ) (x : Lent) (v : Check) (r : Regroup) (y : Lent) : Type 0 where
+-- a message judged, v, and carried out: x was lent, y is left of it, and g becomes of the made groups
+pub record PerformedAs (l : Layout) (busy : ℕ) (m : List ℕ) (x : Lent) (v : Check) (g : Regroup) (y : Lent) : Type 0 where
   pub check : v ≡ judge l (x .groups) busy m
-  pub holds : held l (withRegroup r y) ≡ stateAfter (asked l (x .groups) m) (judge l (x .groups) busy m) (held l x)
+  pub judgement : Judgement l (x .groups) m v
+  pub holds : held l (withRegroup g y) ≡ stateAfter (asked l (x .groups) m) (judge l (x .groups) busy m) (held l x)
 
 -- what is said to a command, and to a message, where no answer is due, on any board
 pub record Quiet (k : Command) (m : List ℕ) (s : Spoken) : Type 0 where
@@ -38,6 +38,6 @@ pub record LongEnough (v : Check) (m : List ℕ) : Type 0 where
   pub names : v ≡ Pass → commandOf (byteAt m 0) ≡ RunFunction → 3 < length m
 
 -- what the work of a message leaves: what is said stands in the buffer from `at` on, and y, regrouped, holds what the definition gives
-pub record ServedAs (due : Bool) (l : Layout) (busy : ℕ) (m : List ℕ) (x : Lent) (r : List ℕ) (at : ℕ) (s : Served) (r′ : List ℕ) (y : Lent) : Type 0 where
-  pub spoke : Spoke due (handled l busy m (held l x) .says) r at (s .said) r′
-  pub holds : held l (withRegroup (s .regroup) y) ≡ handled l busy m (held l x) .state
+pub record ServedAs (due : Bool) (l : Layout) (busy : ℕ) (m : List ℕ) (x : Lent) (r : List ℕ) (at : ℕ) (s : Spoken) (g : Regroup) (r′ : List ℕ) (y : Lent) : Type 0 where
+  pub spoke : Spoke due (handled l busy m (held l x) .says) r at s r′
+  pub holds : held l (withRegroup g y) ≡ handled l busy m (held l x) .state

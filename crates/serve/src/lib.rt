@@ -169,7 +169,7 @@ pub fn serve(
     ensures { λ r. let l = lentLayout (now (sizes .entry)) writable (now (curves .entry)) (now (functions .entry)) in
         let x = lent (now (values .entry)) (now (blocks .entry)) (now (groups .entry)) in
         let y = lent (now (values .exit)) (now (blocks .exit)) (now (groups .entry)) in
-        ⌜ ServedAs due l busy (now (message .entry)) x (now (reply .entry)) at r (now (reply .exit)) y ⌝ }
+        ⌜ ServedAs due l busy (now (message .entry)) x (now (reply .entry)) at (r .said) (r .regroup) (now (reply .exit)) y ⌝ }
 {
     let p = perform(
         sizes,
