@@ -2,16 +2,19 @@
 use bsmp::Command;
 use bsmp::FunctionNumber;
 ghost use mathlib.Core.Path.{_≡_};
+ghost use mathlib.Core.Bool.{true};
 ghost use mathlib.Core.List.{[], _∷_};
 ghost use Prim.Native.Nat.{_+_, _≤_, _<_};
 ghost use lib.ListN.{length, drop};
 ghost use Rattle.bsmp.specs.Message.{functionAt, line, runs, spoken};
 ghost use Rattle.parts.specs.Parts.{Passed, Answered};
-ghost use Rattle.judging.specs.Standing.{lentLayout, heldBy, Standing};
+ghost use Rattle.bsmp.specs.Store.{held};
+ghost use Rattle.records.specs.Lending.{lent};
+ghost use Rattle.judging.specs.Judging.{lentLayout, SoundBoard};
 ghost use Rattle.answers.specs.Answers.{spokenOf, Spoke};
 ghost use Rattle.answers.specs.declared.Spoken.the-variants.{Reply};
 
-// What is said to a message: a reply whose payload stands in the buffer, or that a function is to be run.
+// What is said to a message: a reply whose payload stands in the buffer, that a function is to be run, or, where no answer is due, nothing.
 pub enum Spoken {
     Reply {
         code: u8,
@@ -21,6 +24,7 @@ pub enum Spoken {
         function: FunctionNumber,
         input: usize,
     },
+    Nothing,
 }
 
 impl Spoken {
@@ -43,7 +47,7 @@ fn tell_version(reply: &mut [u8], at: usize) -> usize
 
 fn run(payload: &[u8]) -> Spoken
     requires { ⌜ 0 < length (now payload) ⌝ }
-    ensures { λ r. ⌜ r ≡ spokenOf (runs (functionAt (now (payload .entry)) 0) (drop 1 (now (payload .entry)))) ⌝ }
+    ensures { λ r. ⌜ r ≡ spokenOf true (runs (functionAt (now (payload .entry)) 0) (drop 1 (now (payload .entry)))) ⌝ }
 {
     Spoken::Run {
         function: parts::function_at(payload, 0),
@@ -60,16 +64,18 @@ pub fn answer(
     functions: &[u8],
     groups: &[u64],
     values: &[u8],
-    store: &[u8],
+    blocks: &[u8],
     payload: &[u8],
     reply: &mut [u8],
     at: usize,
 ) -> Spoken
-    requires { ⌜ Standing (now sizes) (now curves) (now functions) (now groups) (now values) (now store) ⌝ }
+    requires { ⌜ SoundBoard (lentLayout (now sizes) writable (now curves) (now functions)) (lent (now values) (now blocks) (now groups)) ⌝ }
     requires { ⌜ Passed (lentLayout (now sizes) writable (now curves) (now functions)) (now groups) (now payload) command ⌝ }
     requires { ⌜ at + 4099 ≤ length (now reply) ⌝ }
-    ensures { λ r. ⌜ Spoke (spoken (line (lentLayout (now (sizes .entry)) writable (now (curves .entry)) (now (functions .entry))) (now (groups .entry)) (now (payload .entry)) command .answer) (heldBy (lentLayout (now (sizes .entry)) writable (now (curves .entry)) (now (functions .entry))) (now (values .entry)) (now (store .entry)) (now (groups .entry))))
-        (now (reply .entry)) at r (now (reply .exit)) ⌝ }
+    ensures { λ r. let l = lentLayout (now (sizes .entry)) writable (now (curves .entry)) (now (functions .entry)) in
+        let x = lent (now (values .entry)) (now (blocks .entry)) (now (groups .entry)) in
+        let said = spoken (line l (x .groups) (now (payload .entry)) command .answer) (held l x) in
+        ⌜ Spoke true said (now (reply .entry)) at r (now (reply .exit)) ⌝ }
 {
     match command {
         Command::Version => Spoken::of(0x01, tell_version(reply, at)),
@@ -93,7 +99,7 @@ pub fn answer(
             0x11,
             variables::tell(sizes, values, payload, 1, reply, at),
         ),
-        Command::ReadBlock => Spoken::of(0x41, curves::tell(curves, store, payload, reply, at)),
+        Command::ReadBlock => Spoken::of(0x41, curves::tell(curves, blocks, payload, reply, at)),
         Command::RunFunction => run(payload),
         Command::WriteVariable => Spoken::of(0xE0, 0),
         Command::WriteGroup => Spoken::of(0xE0, 0),

@@ -21,7 +21,11 @@ use Rattle.lists.proofs.Put.{mid-rest}
 use Rattle.parts.specs.Parts.{Passed}
 use Rattle.parts.proofs.Told.{not-on, not-off, or-left, or-right, or-none}
 use Rattle.parts.proofs.Passed.{fail-no}
-use Rattle.judging.specs.Standing.{Judged}
+use Rattle.judging.specs.Judging.{Judgement}
+
+-- the tests of the command that a match found
+pub of-command : (l : Layout) (gs : List ℕ) (busy : ℕ) (p : List ℕ) (k c : Command) (v : Check) → k ≡ c → v ≡ check l gs busy p c → v ≡ check l gs busy p k
+of-command l gs busy p k c v e h = rw e h
 
 module _ (l : Layout) (gs : List ℕ) (busy : ℕ) (m : List ℕ) where
   -- the three returns of a judgement
@@ -29,16 +33,16 @@ module _ (l : Layout) (gs : List ℕ) (busy : ℕ) (m : List ℕ) where
   unfolding judge
   judge-short h = first-stop _ _ _ _ _ _ _ (or-left (ltb (length m) 3) _ (lt-ltb _ _ h)) refl
 
-  pub judge-size : (n : ℕ) → 3 ≤ length m → (n ≡ byteAt m 1 * 256 + byteAt m 2) × (n < 65536) → (n ≡ length m - 3 → ⊥) → Fail Malformed ≡ judge l gs busy m
+  pub judge-size : (n : ℕ) → 3 ≤ length m → n ≡ byteAt m 1 * 256 + byteAt m 2 → (n ≡ length m - 3 → ⊥) → Fail Malformed ≡ judge l gs busy m
   unfolding judge
   judge-size n h e k =
-      first-stop _ _ _ _ _ _ _ (or-right (ltb (length m) 3) _ (le-ltb _ _ h) (not-on (eqb (wordAt m 1) (length m - 3)) (ne-eqb _ _ (λ q. k (e .0 ∙ q))))) refl
+      first-stop _ _ _ _ _ _ _ (or-right (ltb (length m) 3) _ (le-ltb _ _ h) (not-on (eqb (wordAt m 1) (length m - 3)) (ne-eqb _ _ (λ q. k (e ∙ q))))) refl
 
-  pub judge-rest : (n : ℕ) (k : Command) (x : Check) → 3 ≤ length m → (n ≡ byteAt m 1 * 256 + byteAt m 2) × (n < 65536) → n ≡ length m - 3
+  pub judge-rest : (n : ℕ) (k : Command) (x : Check) → 3 ≤ length m → n ≡ byteAt m 1 * 256 + byteAt m 2 → n ≡ length m - 3
       → k ≡ commandOf (byteAt m 0) → x ≡ check l gs busy (midOf 3 (length m - 3) m) k → x ≡ judge l gs busy m
   unfolding judge
   judge-rest n k x h e q f g =
-      first-next _ _ _ _ _ _ _ (or-none (ltb (length m) 3) _ (le-ltb _ _ h) (not-off (eqb (wordAt m 1) (length m - 3)) (eq-eqb _ _ (sym (e .0) ∙ q))))
+      first-next _ _ _ _ _ _ _ (or-none (ltb (length m) 3) _ (le-ltb _ _ h) (not-off (eqb (wordAt m 1) (length m - 3)) (eq-eqb _ _ (sym e ∙ q))))
       (first-end _ _ _ (rw (← f, ← mid-rest 3 m) g))
 
   -- what a pass says of the message
@@ -59,11 +63,11 @@ module _ (l : Layout) (gs : List ℕ) (busy : ℕ) (m : List ℕ) where
 
 -- the same of a judgement under some busy marks, for what responds to it
 module _ (l : Layout) (gs m : List ℕ) (v : Check) where
-  pub judged-some : Judged l gs m v → v ≡ Pass → 0 < length m
+  pub judged-some : Judgement l gs m v → v ≡ Pass → 0 < length m
   judged-some j e = message-some l gs (j .marks) m v (j .judged) e
 
-  pub judged-long : Judged l gs m v → v ≡ Pass → 3 ≤ length m
+  pub judged-long : Judgement l gs m v → v ≡ Pass → 3 ≤ length m
   judged-long j e = message-long l gs (j .marks) m v (j .judged) e
 
-  pub judged-passed : (k : Command) → Judged l gs m v → v ≡ Pass → k ≡ commandOf (byteAt m 0) → Passed l gs (midOf 3 (length m - 3) m) k
+  pub judged-passed : (k : Command) → Judgement l gs m v → v ≡ Pass → k ≡ commandOf (byteAt m 0) → Passed l gs (midOf 3 (length m - 3) m) k
   judged-passed k j e f = message-passed l gs (j .marks) m v k (j .judged) e f

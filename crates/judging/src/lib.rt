@@ -6,7 +6,7 @@ ghost use mathlib.Core.Path.{_≡_};
 ghost use Prim.Native.Nat.{_≤_};
 ghost use lib.ListN.{length};
 ghost use Rattle.bsmp.specs.Message.{check, judge};
-ghost use Rattle.judging.specs.Standing.{lentLayout};
+ghost use Rattle.judging.specs.Judging.{lentLayout};
 
 // The first error of the command's tests.
 fn check(
@@ -20,7 +20,8 @@ fn check(
     busy: u64,
 ) -> Check
     requires { ⌜ (length (now sizes) ≤ 64) × (length (now groups) ≤ 5) ⌝ }
-    ensures { λ r. ⌜ r ≡ check (lentLayout (now (sizes .entry)) writable (now (curves .entry)) (now (functions .entry))) (now (groups .entry)) busy (now (payload .entry)) command ⌝ }
+    ensures { λ r. let l = lentLayout (now (sizes .entry)) writable (now (curves .entry)) (now (functions .entry)) in
+        ⌜ r ≡ check l (now (groups .entry)) busy (now (payload .entry)) command ⌝ }
 {
     match command {
         Command::Version => parts::check_empty(payload),
@@ -56,7 +57,8 @@ pub fn judge(
     busy: u64,
 ) -> Check
     requires { ⌜ (length (now sizes) ≤ 64) × (length (now groups) ≤ 5) ⌝ }
-    ensures { λ r. ⌜ r ≡ judge (lentLayout (now (sizes .entry)) writable (now (curves .entry)) (now (functions .entry))) (now (groups .entry)) busy (now (message .entry)) ⌝ }
+    ensures { λ r. let l = lentLayout (now (sizes .entry)) writable (now (curves .entry)) (now (functions .entry)) in
+        ⌜ r ≡ judge l (now (groups .entry)) busy (now (message .entry)) ⌝ }
 {
     if message.len() < 3 {
         return Check::Fail(WireError::Malformed);

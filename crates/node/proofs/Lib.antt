@@ -1,3 +1,4 @@
 pub mod Tables
-pub mod Work
+pub mod Receiving
+pub mod Carrying
 pub mod Unique

@@ -1,5 +1,6 @@
 -- The group table after a call, and what a usable board's lent parts are. Assumes nothing.
 use mathlib.Core.Path.{_≡_, sym, ap, ap₂, _∙_}
+use mathlib.Core.Bool.{true}
 use mathlib.Core.List.{List, [], _∷_, _++_, append-assoc}
 use Prim.Native.Nat.{ℕ, _+_, _-_, _≤_, _<_}
 use native.Mathlib.Omega.{arith}
@@ -8,17 +9,19 @@ use lib.ListN.{length, take, drop, getD, set, length-append, length-take, length
 use lib.Seq.{take-all, getD-take, getD-drop, getD-append-add, ext-getD}
 use Rattle.bsmp.specs.Base.{sum}
 use Rattle.bsmp.specs.Board.{Table, layout, sizesOf, usable}
+use Rattle.bsmp.specs.Store.{held}
 use Rattle.lists.specs.Put.{put}
 use Rattle.lists.proofs.Put.{set-put}
 use Rattle.records.specs.Lending.{recordsOf, groupsOf, tableOf, lent}
 use Rattle.records.specs.declared.Records.{Records}
 use Rattle.records.specs.declared.Groups.{Groups}
 use Rattle.records.proofs.Lending.{record-count, sizes-lent, group-count, group-at, groups-lent}
-use Rattle.records.proofs.Whole.{layout-lent}
+use Rattle.records.specs.declared.Board.{Board}
+use Rattle.records.proofs.Whole.{layout-lent, board-usable, board-writable}
 use Rattle.records.proofs.Sound as R
 use Rattle.variables.proofs.Listing.{sizes-usable}
-use Rattle.judging.specs.Standing.{lentLayout, Standing}
-use Rattle.node.specs.Promise.{lentState, tableWith, Ready}
+use Rattle.judging.specs.Judging.{lentLayout, SoundBoard}
+use Rattle.node.specs.Promise.{tableWith, frontOf, BoardTold, BoardReady}
 
 -- the table of the groups that it holds is the table, whatever its count
 module _ (g : Groups) (five : length (g .sets) ≡ 5) where
@@ -71,36 +74,56 @@ table-without g x five e =
     λ i. record { count = c i; sets = (e .1 ∙ sym (take-all 5 (g .sets) (omega arith))) i }
 
 -- a usable board ---------------------------------------------------------------------------------------------------------------
-module _ (r : Records) (cs fs : List ℕ) (g : Groups) (vs bs : List ℕ) (w : ℕ) (h : Ready (tableOf r cs fs) (lentState (tableOf r cs fs) vs bs g) w) where
+module _ (r : Records) (cs fs : List ℕ) (g : Groups) (vs bs : List ℕ) (c : Board) (told : BoardTold r cs fs g (lent vs bs (groupsOf g)) c) (u : c .usable ≡ true) where
   abbrev T : Table
   T = tableOf r cs fs
 
-  sound : R.Sound T (lent vs bs (groupsOf g))
-  sound = R.usable-sound T (lent vs bs (groupsOf g)) (h .usable-is)
+  is-usable : usable T (held (layout T) (lent vs bs (groupsOf g))) ≡ true
+  is-usable = sym (board-usable T _ c (told .board)) ∙ u
 
-  pub few-records : r .count ≤ 64
+  sound : R.Sound T (lent vs bs (groupsOf g))
+  sound = R.usable-sound T (lent vs bs (groupsOf g)) is-usable
+
+  few-records : r .count ≤ 64
   few-records = omega (arith, record-count r, R.variables-most (recordsOf r) (sound .variables))
 
-  pub few-groups : g .count ≤ 5
+  few-groups : g .count ≤ 5
   few-groups = omega (arith, group-count g, R.groups-most (length (recordsOf r)) (groupsOf g) (sound .groups))
 
-  -- the layout that the code lends is the table's
-  pub layout-is : length (r .sizes) ≡ 64 → lentLayout (take (r .count) (r .sizes)) w cs fs ≡ layout T
-  layout-is e = layout-lent r cs fs w (omega (arith, few-records)) (h .writable-is)
+  front : (n : ℕ) (xs : List ℕ) → frontOf n xs ≡ take n xs
+  front n xs = let e : n - 0 ≡ n = omega arith in ap (λ k. take k xs) e
 
-  pub standing : length (r .sizes) ≡ 64 → length (g .sets) ≡ 5 → Standing (take (r .count) (r .sizes)) cs fs (take (g .count) (g .sets)) vs bs
-  standing e five =
-      let z : sizesOf (recordsOf r) ≡ take (r .count) (r .sizes) = sizes-lent r (omega (arith, few-records)) in
-      let c : length (take (r .count) (r .sizes)) ≡ r .count = simp length-take (omega (arith, few-records)) in
-      let k : length (take (g .count) (g .sets)) ≤ 5 = simp length-take (omega (arith, few-groups)) in
-      record {
-        variables = record {
-          few = omega (arith, few-records);
-          exact = ap sum (sym z) ∙ sym (sound .values);
-          small = rw (sound .values) (R.variables-small (recordsOf r) (sound .variables));
-        };
-        sizes = rw (← z) (sizes-usable (recordsOf r) (sound .variables));
-        curves = record { usable = sound .curves; exact = sound .blocks };
-        functions = sound .functions;
-        groups = k;
-      }
+  sizes-are : sizesOf (recordsOf r) ≡ frontOf (r .count) (r .sizes)
+  sizes-are = sizes-lent r (omega (arith, few-records, told .sizes)) ∙ sym (front (r .count) (r .sizes))
+
+  groups-same : frontOf (g .count) (g .sets) ≡ groupsOf g
+  groups-same = front (g .count) (g .sets) ∙ sym (groups-lent g (omega (arith, few-groups, told .sets)))
+
+  sound-board : SoundBoard (lentLayout (frontOf (r .count) (r .sizes)) (c .writable) cs fs) (lent vs bs (frontOf (g .count) (g .sets)))
+  sound-board = rw groups-same (record {
+    variables = record {
+      few = rw (← sizes-are, sizes-count) few-records;
+      exact = ap sum (sym sizes-are) ∙ sym (sound .values);
+      small = rw (sound .values) (R.variables-small (recordsOf r) (sound .variables));
+    };
+    sizes = rw (← sizes-are) (sizes-usable (recordsOf r) (sound .variables));
+    curves = record { usable = sound .curves; exact = sound .blocks };
+    functions = sound .functions;
+    groups = R.groups-most (length (recordsOf r)) (groupsOf g) (sound .groups);
+  })
+    where
+      sizes-count : length (sizesOf (recordsOf r)) ≡ r .count
+      sizes-count = ap length sizes-are ∙ ap length (front (r .count) (r .sizes)) ∙ simp length-take (omega (arith, few-records, told .sizes))
+
+  -- all that the work of a packet leans on
+  pub board-ready : BoardReady r cs fs g vs bs c
+  board-ready = record {
+    usable-is = is-usable;
+    sizes-inside = omega (arith, few-records, told .sizes);
+    sets-inside = omega (arith, few-groups, told .sets);
+    layout-is =
+        ap (λ ns. lentLayout ns (c .writable) cs fs) (front (r .count) (r .sizes))
+        ∙ layout-lent r cs fs (c .writable) (omega (arith, few-records, told .sizes)) (board-writable T _ c (told .board) u);
+    groups-are = groups-same;
+    sound = sound-board;
+  }

@@ -5,33 +5,35 @@ use Prim.Native.Nat.{ℕ}
 use lib.ListN.{length}
 use Rattle.bsmp.specs.Board.{Table, layout, State, blockSizes}
 use Rattle.bsmp.specs.Packet.{Place, Ending, Result, packet}
+use Rattle.bsmp.specs.Store.{held}
 use Rattle.bsmp.specs.Apart.{arrives}
 use Rattle.bsmp.specs.declared.Refusal.{Refusal}
 use Rattle.bsmp.specs.declared.Outcome.the-variants as O
 use Rattle.bsmp.proofs.Keeps.{refusal-keeps, outcome-refused}
 use Rattle.bsmp.proofs.Store.{join-cut}
+use Rattle.records.specs.Lending.{groupsOf, lent}
 use Rattle.records.specs.declared.Groups.{Groups}
-use Rattle.node.specs.Promise.{lentState, Lasting, lasting, left}
+use Rattle.node.specs.Promise.{PacketLeft, packetLeft, packetLeftOf}
 use Rattle.node.specs.declared.Done.{Done}
 use Rattle.node.proofs.Tables.{table-same}
 
 -- any two results that it allows are equal, with all that they leave
-pub unique : (x : Lasting) (d d′ : Done) (r r′ vs vs′ bs bs′ : List ℕ) → left d r vs bs ≡ x → left d′ r′ vs′ bs′ ≡ x
+pub unique : (x : PacketLeft) (d d′ : Done) (r r′ vs vs′ bs bs′ : List ℕ) → packetLeft d r vs bs ≡ x → packetLeft d′ r′ vs′ bs′ ≡ x
     → (d ≡ d′) × (r ≡ r′) × (vs ≡ vs′) × (bs ≡ bs′)
 unique x d d′ r r′ vs vs′ bs bs′ h k =
-    let q : left d r vs bs ≡ left d′ r′ vs′ bs′ = h ∙ sym k in
+    let q : packetLeft d r vs bs ≡ packetLeft d′ r′ vs′ bs′ = h ∙ sym k in
     (λ i. record { outcome = q i .outcome; groups = q i .groups }, ap (λ y. y .reply) q, ap (λ y. y .values) q, ap (λ y. y .blocks) q)
 
 -- a refused packet leaves the reply buffer, both stores and the group table as they were
 pub refused-keeps : (t : Table) (a : Place) (busy : ℕ) (p : List ℕ) (g : Groups) (n : Refusal) (d : Done) (r r′ vs vs′ bs bs′ : List ℕ) → length (g .sets) ≡ 5
-    → d .outcome ≡ O.Refused n → left d r′ vs′ bs′ ≡ lasting (packet t a busy (length r) p (lentState t vs bs g)) r g
+    → d .outcome ≡ O.Refused n → packetLeft d r′ vs′ bs′ ≡ packetLeftOf (packet t a busy (length r) p (held (layout t) (lent vs bs (groupsOf g)))) r g
     → (r′ ≡ r) × (vs′ ≡ vs) × (bs′ ≡ bs) × (d .groups ≡ g)
 refused-keeps t a busy p g n d r r′ vs vs′ bs bs′ five e h =
-    let s : State = lentState t vs bs g in
+    let s : State = held (layout t) (lent vs bs (groupsOf g)) in
     let x : Result = packet t a busy (length r) p s in
     let o : x .ending ≡ Ending.refused n = outcome-refused (x .ending) n (sym (ap (λ y. y .outcome) h) ∙ e) in
     let k : x .state ≡ s = refusal-keeps t a (arrives busy (length r) p) s n o in
-    let q : lasting x r g ≡ lasting (record { ending = Ending.refused n; state = s }) r g = λ i. lasting (record { ending = o i; state = k i }) r g in
+    let q : packetLeftOf x r g ≡ packetLeftOf (record { ending = Ending.refused n; state = s }) r g = λ i. packetLeftOf (record { ending = o i; state = k i }) r g in
     let z = h ∙ q in (
       ap (λ y. y .reply) z,
       ap (λ y. y .values) z ∙ join-cut (layout t .sizes) vs,

@@ -1,34 +1,39 @@
 -- The promise of a packet's work: what it leaves in everything that was lent to it, for every input. Assumes nothing.
 use mathlib.Core.Path.{_≡_}
-use mathlib.Core.Bool.{true}
+use mathlib.Core.Bool.{Bool, true}
 use mathlib.Core.List.{List, _++_}
-use Prim.Native.Nat.{ℕ, _<_}
+use Prim.Native.Nat.{ℕ, _+_, _-_, _≤_, _<_}
+use borrow.Rule.Slice.PartMut.{midOf}
 use lib.ListN.{length, take, drop}
 use Rattle.bsmp.specs.Base.{join, first}
 use Rattle.bsmp.specs.Board.{Table, Layout, layout, State, usable}
 use Rattle.bsmp.specs.Message.{handled}
-use Rattle.bsmp.specs.Packet.{Place, Result, refuse, boardTests, packetTests, answered, isOwn, destination, message}
-use Rattle.bsmp.specs.Store.{held, outcomeOf, shown}
+use Rattle.bsmp.specs.Packet.{Place, Result, refuse, boardTests, packetTests, answered, isOwn, destination, message, frame, packet}
+use Rattle.bsmp.specs.Store.{Lent, held, outcomeOf, shown}
 use Rattle.bsmp.specs.declared.Outcome.{Outcome}
-use Rattle.bsmp.specs.declared.Outcome.the-variants.{Silence, Refused}
+use Rattle.bsmp.specs.declared.Outcome.the-variants as O
+use Rattle.lists.specs.Put.{put, part}
 use Rattle.wire.specs.declared.Opened.{Opened}
-use Rattle.wire.specs.declared.Opened.the-variants as O
-use Rattle.records.specs.Lending.{groupsOf, lent}
+use Rattle.wire.specs.declared.Opened.the-variants.{Message, Refused}
+use Rattle.records.specs.Lending.{groupsOf, tableOf, lent}
+use Rattle.records.specs.Checks.{boardOf}
+use Rattle.records.specs.declared.Records.{Records}
 use Rattle.records.specs.declared.Groups.{Groups}
-use Rattle.effects.specs.declared.Regroup.{Regroup}
-use Rattle.effects.specs.declared.Regroup.the-variants.{Make}
+use Rattle.records.specs.declared.Board.{Board}
+use Rattle.judging.specs.Judging.{lentLayout, SoundBoard}
+use Rattle.changes.specs.Changes.{withRegroup}
+use Rattle.changes.specs.declared.Regroup.{Regroup}
+use Rattle.changes.specs.declared.Regroup.the-variants.{Make}
+use Rattle.answers.specs.declared.Spoken.{Spoken}
+use Rattle.answers.specs.declared.Spoken.the-variants.{Reply, Run, Nothing}
 use Rattle.node.specs.declared.Done.{Done}
-
--- what a board lends to a call, as the definition's state
-abbrev pub lentState : Table → (values blocks : List ℕ) → Groups → State
-lentState t values blocks g = held (layout t) (lent values blocks (groupsOf g))
 
 -- the group table that holds these made groups in its first places; the others are as they were
 abbrev pub tableWith : List ℕ → Groups → Groups
 tableWith gs g = record { count = length gs; sets = take 5 (gs ++ drop (length gs) (g .sets)) }
 
 -- what a call leaves: its outcome, and all that was lent to it
-pub record Lasting : Type 0 where
+pub record PacketLeft : Type 0 where
   pub outcome : Outcome
   pub groups : Groups
   pub reply : List ℕ
@@ -36,8 +41,8 @@ pub record Lasting : Type 0 where
   pub blocks : List ℕ
 
 -- as the definition has it, from the reply buffer and the group table at the call ..
-abbrev pub lasting : Result → (reply : List ℕ) → Groups → Lasting
-lasting x r g = record {
+abbrev pub packetLeftOf : Result → (reply : List ℕ) → Groups → PacketLeft
+packetLeftOf x r g = record {
   outcome = outcomeOf (x .ending);
   groups = tableWith (x .state .groups) g;
   reply = shown (x .ending) r;
@@ -46,13 +51,38 @@ lasting x r g = record {
 }
 
 -- .. and as the code has it
-abbrev pub left : Done → (reply values blocks : List ℕ) → Lasting
-left d r vs bs = record { outcome = d .outcome; groups = d .groups; reply = r; values = vs; blocks = bs }
+abbrev pub packetLeft : Done → (reply values blocks : List ℕ) → PacketLeft
+packetLeft d r vs bs = record { outcome = d .outcome; groups = d .groups; reply = r; values = vs; blocks = bs }
 
+-- for the functions below the entry ---------------------------------------------------------------------------------------
 -- what comes of a packet that yields no message
 abbrev pub unopenedOf : Opened → Outcome
-unopenedOf (O.Refused r) = Refused r
-unopenedOf (O.Message due) = Silence
+unopenedOf (Refused r) = O.Refused r
+unopenedOf (Message due) = O.Silence
+
+-- what is said to a message, as the call ends: closed in its packet, told of, or nothing
+abbrev pub endOf : (due : Bool) → Spoken → Outcome
+endOf due (Reply c n) = O.Reply (n + 5)
+endOf due (Run f n) = O.Run f n due
+endOf due Nothing = O.Silence
+
+abbrev pub closedIn : List ℕ → Spoken → List ℕ
+closedIn b (Reply c n) = put b 0 (frame c (part b 4 n))
+closedIn b (Run f n) = b
+closedIn b Nothing = b
+
+pub record Closed (due : Bool) (s : Spoken) (b : List ℕ) (o : Outcome) (b′ : List ℕ) : Type 0 where
+  pub outcome : o ≡ endOf due s
+  pub reply : b′ ≡ closedIn b s
+
+-- a reply's payload stands in the buffer, and its packet fits there
+pub record Closable (s : Spoken) (b : List ℕ) : Type 0 where
+  pub short : (c n : ℕ) → s ≡ Reply c n → n ≤ 4099
+  pub room : 4104 ≤ length b
+
+-- a group table with room for what a message makes
+pub record Fits (r : Regroup) (g : Groups) : Type 0 where
+  pub room : (m : ℕ) → r ≡ Make m → g .count < 5
 
 -- a packet on a usable board
 abbrev pub receivedOf : Layout → Place → (busy room : ℕ) → (request : List ℕ) → State → Result
@@ -61,12 +91,33 @@ receivedOf l a busy room p s =
     (first (packetTests a p) (refuse s)
     (answered (isOwn a (destination p)) (handled l busy (message p) s)))
 
--- for the functions below the entry ---------------------------------------------------------------------------------------
--- a group table with room for what a message makes
-pub record Fits (r : Regroup) (g : Groups) : Type 0 where
-  pub room : (m : ℕ) → r ≡ Make m → g .count < 5
+-- what the work leaves before the table is regrouped: g becomes of the made groups, and y, regrouped, holds what the definition gives
+pub record EndsAs (z : Result) (l : Layout) (b : List ℕ) (o : Outcome) (g : Regroup) (b′ : List ℕ) (y : Lent) : Type 0 where
+  pub outcome : o ≡ outcomeOf (z .ending)
+  pub reply : b′ ≡ shown (z .ending) b
+  pub holds : held l (withRegroup g y) ≡ z .state
 
--- a usable board as it is lent, with the writable variables as marks
-pub record Ready (t : Table) (s : State) (writable : ℕ) : Type 0 where
-  pub usable-is : usable t s ≡ true
-  pub writable-is : writable ≡ layout t .writable
+pub record ReceivedAs (l : Layout) (a : Place) (busy : ℕ) (p : List ℕ) (x : Lent) (b : List ℕ) (o : Outcome) (g : Regroup) (b′ : List ℕ) (y : Lent) : Type 0 where
+  pub ends : EndsAs (receivedOf l a busy (length b) p (held l x)) l b o g b′ y
+
+pub record CarriedAs (t : Table) (a : Place) (busy : ℕ) (p : List ℕ) (x : Lent) (b : List ℕ) (o : Outcome) (g : Regroup) (b′ : List ℕ) (y : Lent) : Type 0 where
+  pub ends : EndsAs (packet t a busy (length b) p (held (layout t) x)) (layout t) b o g b′ y
+
+-- the front of an array, as it is lent
+abbrev pub frontOf : ℕ → List ℕ → List ℕ
+frontOf n xs = midOf 0 (n - 0) xs
+
+-- refusal 1, told by c, and how long the arrays are that a record's columns and a group table's places stand in
+pub record BoardTold (r : Records) (cs fs : List ℕ) (g : Groups) (x : Lent) (c : Board) : Type 0 where
+  pub board : c ≡ boardOf (tableOf r cs fs) x
+  pub sizes : length (r .sizes) ≡ 64
+  pub sets : length (g .sets) ≡ 5
+
+-- a usable board, whose columns and places can be lent by their fronts
+pub record BoardReady (r : Records) (cs fs : List ℕ) (g : Groups) (vs bs : List ℕ) (c : Board) : Type 0 where
+  pub usable-is : usable (tableOf r cs fs) (held (layout (tableOf r cs fs)) (lent vs bs (groupsOf g))) ≡ true
+  pub sizes-inside : r .count ≤ length (r .sizes)
+  pub sets-inside : g .count ≤ length (g .sets)
+  pub layout-is : lentLayout (frontOf (r .count) (r .sizes)) (c .writable) cs fs ≡ layout (tableOf r cs fs)
+  pub groups-are : frontOf (g .count) (g .sets) ≡ groupsOf g
+  pub sound : SoundBoard (lentLayout (frontOf (r .count) (r .sizes)) (c .writable) cs fs) (lent vs bs (frontOf (g .count) (g .sets)))

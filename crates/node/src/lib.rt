@@ -1,28 +1,35 @@
 // The work of a packet's entry, by value and over slices: every board, packet and buffer is taken, and bad ones are refused.
+use answers::Spoken;
 use bsmp::Outcome;
 use bsmp::Refusal;
-use effects::Regroup;
+use changes::Regroup;
+use records::Board;
 use records::Groups;
 use records::Records;
-use serve::Handled;
 use wire::Opened;
 ghost use mathlib.Core.Path.{_≡_};
 ghost use lib.ListN.{length};
 ghost use Rattle.bsmp.specs.Board.{layout};
 ghost use Rattle.bsmp.specs.Packet.{packet};
+ghost use Rattle.bsmp.specs.Store.{held};
 ghost use Rattle.bsmp.specs.declared.Outcome.the-variants as O;
-ghost use Rattle.records.specs.Lending.{groupsOf, tableOf};
-ghost use Rattle.judging.specs.Standing.{lentLayout, heldBy, Standing};
-ghost use Rattle.effects.specs.Effects.{regrouped};
-ghost use Rattle.effects.specs.declared.Regroup.the-variants.{Keep};
-ghost use Rattle.serve.specs.Serve.{Leaves};
+ghost use Rattle.records.specs.Lending.{groupsOf, tableOf, lent};
+ghost use Rattle.judging.specs.Judging.{lentLayout, SoundBoard};
+ghost use Rattle.changes.specs.Changes.{regrouped};
+ghost use Rattle.changes.specs.declared.Regroup.the-variants.{Keep};
 ghost use Rattle.wire.specs.Opening.{placed};
-ghost use Rattle.node.specs.Promise.{lentState, tableWith, lasting, left, unopenedOf, receivedOf, Fits};
+ghost use Rattle.node.specs.Promise.{tableWith, packetLeft, packetLeftOf, unopenedOf, Closable, Closed, Fits, BoardTold, BoardReady, ReceivedAs, CarriedAs};
 
 // How a call ended, and the group table that it leaves.
 pub struct Done {
     pub outcome: Outcome,
     pub groups: Groups,
+}
+
+// How the work of a packet ended, and what it makes of the made groups.
+struct Received {
+    outcome: Outcome,
+    regroup: Regroup,
 }
 
 // The group table after a message.
@@ -37,11 +44,11 @@ fn regroup(groups: Groups, r: Regroup) -> Groups
     }
 }
 
-fn refused(refusal: Refusal) -> Handled
+fn refused(refusal: Refusal) -> Received
     ensures { λ r. ⌜ (r .outcome ≡ O.Refused refusal) × (r .regroup ≡ Keep) ⌝ }
 {
     let regroup = Regroup::Keep;
-    Handled {
+    Received {
         outcome: Outcome::Refused(refusal),
         regroup,
     }
@@ -54,6 +61,22 @@ fn unopened(o: Opened) -> Outcome
     match o {
         Opened::Refused(refusal) => Outcome::Refused(refusal),
         Opened::Message { due: _ } => Outcome::Silence,
+    }
+}
+
+// What is said to a message, closed in its packet; or the function that is to be run; or silence.
+fn close(due: bool, said: Spoken, reply: &mut [u8]) -> Outcome
+    requires { ⌜ Closable said (now reply) ⌝ }
+    ensures { λ r. ⌜ Closed due said (now (reply .entry)) r (now (reply .exit)) ⌝ }
+{
+    match said {
+        Spoken::Reply { code, size } => Outcome::Reply(wire::finish(reply, code, size)),
+        Spoken::Run { function, input } => Outcome::Run {
+            function,
+            input,
+            due,
+        },
+        Spoken::Nothing => Outcome::Silence,
     }
 }
 
@@ -71,10 +94,13 @@ fn receive(
     blocks: &mut [u8],
     request: &[u8],
     reply: &mut [u8],
-) -> Handled
-    requires { ⌜ Standing (now sizes) (now curves) (now functions) (now groups) (now values) (now blocks) ⌝ }
-    ensures { λ r. ⌜ Leaves (receivedOf (lentLayout (now (sizes .entry)) writable (now (curves .entry)) (now (functions .entry))) (placed own multicast) busy (length (now (reply .entry))) (now (request .entry)) (heldBy (lentLayout (now (sizes .entry)) writable (now (curves .entry)) (now (functions .entry))) (now (values .entry)) (now (blocks .entry)) (now (groups .entry))))
-        (lentLayout (now (sizes .entry)) writable (now (curves .entry)) (now (functions .entry))) (now (groups .entry)) (now (reply .entry)) r (now (reply .exit)) (now (values .exit)) (now (blocks .exit)) ⌝ }
+) -> Received
+    requires { ⌜ SoundBoard (lentLayout (now sizes) writable (now curves) (now functions)) (lent (now values) (now blocks) (now groups)) ⌝ }
+    ensures { λ r. let l = lentLayout (now (sizes .entry)) writable (now (curves .entry)) (now (functions .entry)) in
+        let x = lent (now (values .entry)) (now (blocks .entry)) (now (groups .entry)) in
+        let y = lent (now (values .exit)) (now (blocks .exit)) (now (groups .entry)) in
+        let b = now (reply .entry) in
+        ⌜ ReceivedAs l (placed own multicast) busy (now (request .entry)) x b (r .outcome) (r .regroup) (now (reply .exit)) y ⌝ }
 {
     if !wire::usable_place(own, multicast) {
         return refused(Refusal::BadAddress);
@@ -86,10 +112,10 @@ fn receive(
     let Opened::Message { due } = o else {
         let outcome = unopened(o);
         let regroup = Regroup::Keep;
-        return Handled { outcome, regroup };
+        return Received { outcome, regroup };
     };
     let end = request.len() - 1;
-    serve::handle(
+    let served = serve::serve(
         due,
         sizes,
         writable,
@@ -100,6 +126,81 @@ fn receive(
         blocks,
         &request[1..end],
         busy,
+        reply,
+        4,
+    );
+    let said = served.said;
+    let regroup = served.regroup;
+    let outcome = close(due, said, reply);
+    Received { outcome, regroup }
+}
+
+// Refusal 1, of records by columns. That the columns are 64 long and the places of a group table 5 is told with it, for who lends their fronts.
+fn look(
+    records: Records,
+    curves: &[u32],
+    functions: &[u8],
+    groups: Groups,
+    values: &[u8],
+    blocks: &[u8],
+) -> Board
+    ensures { λ r. let x = lent (now (values .entry)) (now (blocks .entry)) (groupsOf groups) in
+        ⌜ BoardTold records (now (curves .entry)) (now (functions .entry)) groups x r ⌝ }
+{
+    let types = records.writable;
+    let sizes = records.sizes;
+    let kinds = records.kinds;
+    records::usable_board(
+        records.count,
+        &types,
+        &sizes,
+        &kinds,
+        curves,
+        functions,
+        groups,
+        values,
+        blocks,
+    )
+}
+
+// A packet on a usable board, lent by the fronts of its columns and places.
+fn lend(
+    records: Records,
+    board: Board,
+    curves: &[u32],
+    functions: &[u8],
+    groups: Groups,
+    own: u8,
+    multicast: u8,
+    busy: u64,
+    values: &mut [u8],
+    blocks: &mut [u8],
+    request: &[u8],
+    reply: &mut [u8],
+) -> Received
+    requires { ⌜ BoardReady records (now curves) (now functions) groups (now values) (now blocks) board ⌝ }
+    ensures { λ r. let t = tableOf records (now (curves .entry)) (now (functions .entry)) in
+        let x = lent (now (values .entry)) (now (blocks .entry)) (groupsOf groups) in
+        let y = lent (now (values .exit)) (now (blocks .exit)) (groupsOf groups) in
+        let b = now (reply .entry) in
+        ⌜ CarriedAs t (placed own multicast) busy (now (request .entry)) x b (r .outcome) (r .regroup) (now (reply .exit)) y ⌝ }
+{
+    let count = records.count;
+    let sizes = records.sizes;
+    let made = groups.count;
+    let sets = groups.sets;
+    receive(
+        &sizes[0..count],
+        board.writable,
+        curves,
+        functions,
+        &sets[0..made],
+        own,
+        multicast,
+        busy,
+        values,
+        blocks,
+        request,
         reply,
     )
 }
@@ -117,34 +218,21 @@ fn carry(
     blocks: &mut [u8],
     request: &[u8],
     reply: &mut [u8],
-) -> Handled
-    ensures { λ r. ⌜ Leaves (packet (tableOf records (now (curves .entry)) (now (functions .entry))) (placed own multicast) busy (length (now (reply .entry))) (now (request .entry)) (lentState (tableOf records (now (curves .entry)) (now (functions .entry))) (now (values .entry)) (now (blocks .entry)) groups))
-        (layout (tableOf records (now (curves .entry)) (now (functions .entry)))) (groupsOf groups) (now (reply .entry)) r (now (reply .exit)) (now (values .exit)) (now (blocks .exit)) ⌝ }
+) -> Received
+    ensures { λ r. let t = tableOf records (now (curves .entry)) (now (functions .entry)) in
+        let x = lent (now (values .entry)) (now (blocks .entry)) (groupsOf groups) in
+        let y = lent (now (values .exit)) (now (blocks .exit)) (groupsOf groups) in
+        let b = now (reply .entry) in
+        ⌜ CarriedAs t (placed own multicast) busy (now (request .entry)) x b (r .outcome) (r .regroup) (now (reply .exit)) y ⌝ }
 {
-    let count = records.count;
-    let types = records.writable;
-    let sizes = records.sizes;
-    let kinds = records.kinds;
-    let board = records::usable_board(
-        count,
-        &types,
-        &sizes,
-        &kinds,
-        curves,
-        functions,
-        groups,
-        values,
-        blocks,
-    );
+    let board = look(records, curves, functions, groups, values, blocks);
     if board.usable {
-        let made = groups.count;
-        let sets = groups.sets;
-        return receive(
-            &sizes[0..count],
-            board.writable,
+        return lend(
+            records,
+            board,
             curves,
             functions,
-            &sets[0..made],
+            groups,
             own,
             multicast,
             busy,
@@ -171,9 +259,10 @@ pub fn packet(
     request: &[u8],
     reply: &mut [u8],
 ) -> Done
-    ensures { λ r. ⌜ left r (now (reply .exit)) (now (values .exit)) (now (blocks .exit))
-        ≡ lasting (packet (tableOf records (now (curves .entry)) (now (functions .entry))) (placed own multicast) busy (length (now (reply .entry))) (now (request .entry)) (lentState (tableOf records (now (curves .entry)) (now (functions .entry))) (now (values .entry)) (now (blocks .entry)) groups))
-        (now (reply .entry)) groups ⌝ }
+    ensures { λ r. let t = tableOf records (now (curves .entry)) (now (functions .entry)) in
+        let s = held (layout t) (lent (now (values .entry)) (now (blocks .entry)) (groupsOf groups)) in
+        let result = packet t (placed own multicast) busy (length (now (reply .entry))) (now (request .entry)) s in
+        ⌜ packetLeft r (now (reply .exit)) (now (values .exit)) (now (blocks .exit)) ≡ packetLeftOf result (now (reply .entry)) groups ⌝ }
 {
     let h = carry(
         records,

@@ -1,2 +1,2 @@
+pub mod Silence
 pub mod Serving
-pub mod Ending

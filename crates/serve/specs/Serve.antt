@@ -7,43 +7,37 @@ use lib.ListN.{length, drop}
 use Rattle.bsmp.specs.Base.{byteAt}
 use Rattle.bsmp.specs.Board.{Layout, State}
 use Rattle.bsmp.specs.Codes.{commandOf}
-use Rattle.bsmp.specs.Message.{Said, line, asked, judge, said, spoken, stateAfter}
-use Rattle.bsmp.specs.Packet.{Result, ends}
-use Rattle.bsmp.specs.Store.{outcomeOf, shown}
+use Rattle.bsmp.specs.Message.{line, asked, judge, said, spoken, stateAfter, handled}
+use Rattle.bsmp.specs.Store.{Lent, held}
 use Rattle.bsmp.specs.declared.Command.{Command}
 use Rattle.bsmp.specs.declared.Command.the-variants.{RunFunction}
 use Rattle.bsmp.specs.declared.Check.{Check}
 use Rattle.bsmp.specs.declared.Check.the-variants.{Pass}
-use Rattle.bsmp.specs.declared.Outcome.{Outcome}
-use Rattle.judging.specs.Standing.{heldBy, Judged}
-use Rattle.effects.specs.Effects.{regrouped}
-use Rattle.serve.specs.declared.Performed.{Performed}
-use Rattle.serve.specs.declared.Handled.{Handled}
+use Rattle.judging.specs.Judging.{Judgement}
+use Rattle.changes.specs.Changes.{withRegroup}
+use Rattle.changes.specs.declared.Regroup.{Regroup}
+use Rattle.answers.specs.Answers.{spokenOf, Spoke}
+use Rattle.answers.specs.declared.Spoken.{Spoken}
 
--- a message judged and carried out, against the definition
-pub record PerformedAs (l : Layout) (gs : List ℕ) (busy : ℕ) (m values store : List ℕ) (r : Performed) (values′ store′ : List ℕ) : Type 0 where
-  pub check : r .check ≡ judge l gs busy m
-  pub holds : heldBy l values′ store′ (regrouped (r .regroup) gs) ≡ stateAfter (asked l gs m) (judge l gs busy m) (heldBy l values store gs)
+-- a message judged, v, and carried out: x was lent, y is left of it, and g becomes of the made groups
+pub record PerformedAs (l : Layout) (busy : ℕ) (m : List ℕ) (x : Lent) (v : Check) (g : Regroup) (y : Lent) : Type 0 where
+  pub check : v ≡ judge l (x .groups) busy m
+  pub judgement : Judgement l (x .groups) m v
+  pub holds : held l (withRegroup g y) ≡ stateAfter (asked l (x .groups) m) (judge l (x .groups) busy m) (held l x)
 
--- what is said, as it ends where an answer is due or not
-pub record Ended (due : Bool) (x : Said) (r : List ℕ) (o : Outcome) (r′ : List ℕ) : Type 0 where
-  pub outcome : o ≡ outcomeOf (ends due x)
-  pub reply : r′ ≡ shown (ends due x) r
+-- what is said to a command, and to a message, where no answer is due, on any board
+pub record Quiet (k : Command) (m : List ℕ) (s : Spoken) : Type 0 where
+  pub is : (l : Layout) (gs : List ℕ) (st : State) → s ≡ spokenOf false (spoken (line l gs (drop 3 m) k .answer) st)
 
--- a command, and a message, as they end where no answer is due, on any board
-pub record Quiet (k : Command) (m : List ℕ) (o : Outcome) : Type 0 where
-  pub is : (l : Layout) (gs : List ℕ) (s : State) → o ≡ outcomeOf (ends false (spoken (line l gs (drop 3 m) k .answer) s))
-
-pub record Unanswered (v : Check) (m : List ℕ) (o : Outcome) : Type 0 where
-  pub is : (l : Layout) (gs : List ℕ) (s : State) → Judged l gs m v → o ≡ outcomeOf (ends false (said (asked l gs m) v s))
+pub record Unanswered (v : Check) (m : List ℕ) (s : Spoken) : Type 0 where
+  pub is : (l : Layout) (gs : List ℕ) (st : State) → s ≡ spokenOf false (said (asked l gs m) v st)
 
 -- a message that passed has a command, and one that asks for a run a function number
-pub record Heard (v : Check) (m : List ℕ) : Type 0 where
-  pub long : v ≡ Pass → 3 ≤ length m
+pub record LongEnough (v : Check) (m : List ℕ) : Type 0 where
+  pub whole : v ≡ Pass → 3 ≤ length m
   pub names : v ≡ Pass → commandOf (byteAt m 0) ≡ RunFunction → 3 < length m
 
--- what the work of a message leaves, against what the definition gives
-pub record Leaves (x : Result) (l : Layout) (gs r : List ℕ) (h : Handled) (r′ vs bs : List ℕ) : Type 0 where
-  pub outcome : h .outcome ≡ outcomeOf (x .ending)
-  pub reply : r′ ≡ shown (x .ending) r
-  pub holds : heldBy l vs bs (regrouped (h .regroup) gs) ≡ x .state
+-- what the work of a message leaves: what is said stands in the buffer from `at` on, and y, regrouped, holds what the definition gives
+pub record ServedAs (due : Bool) (l : Layout) (busy : ℕ) (m : List ℕ) (x : Lent) (r : List ℕ) (at : ℕ) (s : Spoken) (g : Regroup) (r′ : List ℕ) (y : Lent) : Type 0 where
+  pub spoke : Spoke due (handled l busy m (held l x) .says) r at s r′
+  pub holds : held l (withRegroup g y) ≡ handled l busy m (held l x) .state

@@ -1,19 +1,19 @@
-// A message: judged, carried out and answered. Nothing here knows of boards that can't be used, nor of packets but the one that an answer goes in.
+// A message: judged, carried out and answered. Nothing here knows of boards that can't be used, nor of packets.
 use answers::Spoken;
 use bsmp::Check;
 use bsmp::Command;
-use bsmp::Outcome;
-use effects::Regroup;
+use changes::Regroup;
 ghost use mathlib.Core.Path.{_≡_};
 ghost use mathlib.Core.Bool.{true};
 ghost use Prim.Native.Nat.{_+_, _≤_, _<_};
 ghost use lib.ListN.{length};
-ghost use Rattle.bsmp.specs.Message.{asked, said, handled};
-ghost use Rattle.bsmp.specs.Packet.{answered};
+ghost use Rattle.bsmp.specs.Message.{asked, said};
+ghost use Rattle.bsmp.specs.Store.{held};
 ghost use Rattle.bsmp.specs.declared.Command.the-variants.{RunFunction};
-ghost use Rattle.judging.specs.Standing.{lentLayout, heldBy, Standing, Judged};
+ghost use Rattle.records.specs.Lending.{lent};
+ghost use Rattle.judging.specs.Judging.{lentLayout, SoundBoard, Judgement};
 ghost use Rattle.answers.specs.Answers.{Spoke};
-ghost use Rattle.serve.specs.Serve.{PerformedAs, Ended, Quiet, Unanswered, Heard, Leaves};
+ghost use Rattle.serve.specs.Serve.{PerformedAs, Quiet, Unanswered, LongEnough, ServedAs};
 
 // How a message was judged, and what it makes of the made groups.
 struct Performed {
@@ -21,9 +21,9 @@ struct Performed {
     regroup: Regroup,
 }
 
-// How the work of a message ended, and what it makes of the made groups.
-pub struct Handled {
-    pub outcome: Outcome,
+// What is said to a message, and what it makes of the made groups.
+pub struct Served {
+    pub said: Spoken,
     pub regroup: Regroup,
 }
 
@@ -35,17 +35,20 @@ fn perform(
     functions: &[u8],
     groups: &[u64],
     values: &mut [u8],
-    store: &mut [u8],
+    blocks: &mut [u8],
     message: &[u8],
     busy: u64,
 ) -> Performed
-    requires { ⌜ Standing (now sizes) (now curves) (now functions) (now groups) (now values) (now store) ⌝ }
-    ensures { λ r. ⌜ PerformedAs (lentLayout (now (sizes .entry)) writable (now (curves .entry)) (now (functions .entry))) (now (groups .entry)) busy (now (message .entry)) (now (values .entry)) (now (store .entry)) r (now (values .exit)) (now (store .exit)) ⌝ }
+    requires { ⌜ SoundBoard (lentLayout (now sizes) writable (now curves) (now functions)) (lent (now values) (now blocks) (now groups)) ⌝ }
+    ensures { λ r. let l = lentLayout (now (sizes .entry)) writable (now (curves .entry)) (now (functions .entry)) in
+        let x = lent (now (values .entry)) (now (blocks .entry)) (now (groups .entry)) in
+        let y = lent (now (values .exit)) (now (blocks .exit)) (now (groups .entry)) in
+        ⌜ PerformedAs l busy (now (message .entry)) x (r .check) (r .regroup) y ⌝ }
 {
     let v = judging::judge(sizes, writable, curves, functions, groups, message, busy);
     match v {
         Check::Pass => {
-            let regroup = effects::effect(
+            let regroup = changes::change(
                 Command::of(message[0]),
                 sizes,
                 writable,
@@ -53,7 +56,7 @@ fn perform(
                 functions,
                 groups,
                 values,
-                store,
+                blocks,
                 &message[3..],
             );
             Performed { check: v, regroup }
@@ -74,16 +77,18 @@ fn respond(
     functions: &[u8],
     groups: &[u64],
     values: &[u8],
-    store: &[u8],
+    blocks: &[u8],
     message: &[u8],
     reply: &mut [u8],
     at: usize,
 ) -> Spoken
-    requires { ⌜ Standing (now sizes) (now curves) (now functions) (now groups) (now values) (now store) ⌝ }
-    requires { ⌜ Judged (lentLayout (now sizes) writable (now curves) (now functions)) (now groups) (now message) v ⌝ }
+    requires { ⌜ SoundBoard (lentLayout (now sizes) writable (now curves) (now functions)) (lent (now values) (now blocks) (now groups)) ⌝ }
+    requires { ⌜ Judgement (lentLayout (now sizes) writable (now curves) (now functions)) (now groups) (now message) v ⌝ }
     requires { ⌜ at + 4099 ≤ length (now reply) ⌝ }
-    ensures { λ r. ⌜ Spoke (said (asked (lentLayout (now (sizes .entry)) writable (now (curves .entry)) (now (functions .entry))) (now (groups .entry)) (now (message .entry))) v (heldBy (lentLayout (now (sizes .entry)) writable (now (curves .entry)) (now (functions .entry))) (now (values .entry)) (now (store .entry)) (now (groups .entry))))
-        (now (reply .entry)) at r (now (reply .exit)) ⌝ }
+    ensures { λ r. let l = lentLayout (now (sizes .entry)) writable (now (curves .entry)) (now (functions .entry)) in
+        let x = lent (now (values .entry)) (now (blocks .entry)) (now (groups .entry)) in
+        let says = said (asked l (x .groups) (now (message .entry))) v (held l x) in
+        ⌜ Spoke true says (now (reply .entry)) at r (now (reply .exit)) ⌝ }
 {
     match v {
         Check::Pass => answers::answer(
@@ -94,7 +99,7 @@ fn respond(
             functions,
             groups,
             values,
-            store,
+            blocks,
             &message[3..],
             reply,
             at,
@@ -103,75 +108,49 @@ fn respond(
     }
 }
 
-// The answer to a message, closed in its packet; or the function that is to be run.
-fn answered(
-    v: Check,
-    sizes: &[u8],
-    writable: u64,
-    curves: &[u32],
-    functions: &[u8],
-    groups: &[u64],
-    values: &[u8],
-    blocks: &[u8],
-    message: &[u8],
-    reply: &mut [u8],
-) -> Outcome
-    requires { ⌜ Standing (now sizes) (now curves) (now functions) (now groups) (now values) (now blocks) ⌝ }
-    requires { ⌜ Judged (lentLayout (now sizes) writable (now curves) (now functions)) (now groups) (now message) v ⌝ }
-    requires { ⌜ 4104 ≤ length (now reply) ⌝ }
-    ensures { λ r. ⌜ Ended true (said (asked (lentLayout (now (sizes .entry)) writable (now (curves .entry)) (now (functions .entry))) (now (groups .entry)) (now (message .entry))) v (heldBy (lentLayout (now (sizes .entry)) writable (now (curves .entry)) (now (functions .entry))) (now (values .entry)) (now (blocks .entry)) (now (groups .entry))))
-        (now (reply .entry)) r (now (reply .exit)) ⌝ }
-{
-    let s = respond(
-        v,
-        sizes,
-        writable,
-        curves,
-        functions,
-        groups,
-        values,
-        blocks,
-        message,
-        reply,
-        4,
-    );
-    match s {
-        Spoken::Reply { code, size } => Outcome::Reply(wire::finish(reply, code, size)),
-        Spoken::Run { function, input } => Outcome::Run {
-            function,
-            input,
-            due: true,
-        },
-    }
-}
-
 // Where no answer is due only a function to be run is told of.
-fn quiet(command: Command, message: &[u8]) -> Outcome
+fn quiet(command: Command, message: &[u8]) -> Spoken
     requires { ⌜ (command ≡ RunFunction → 3 < length (now message)) ⌝ }
     ensures { λ r. ⌜ Quiet command (now (message .entry)) r ⌝ }
 {
     match command {
-        Command::RunFunction => Outcome::Run {
+        Command::RunFunction => Spoken::Run {
             function: parts::function_at(message, 3),
             input: message.len() - 4,
-            due: false,
         },
-        _ => Outcome::Silence,
+        Command::Version => Spoken::Nothing,
+        Command::ListVariables => Spoken::Nothing,
+        Command::ListGroups => Spoken::Nothing,
+        Command::ShowGroup => Spoken::Nothing,
+        Command::ListCurves => Spoken::Nothing,
+        Command::ListFunctions => Spoken::Nothing,
+        Command::ReadVariable => Spoken::Nothing,
+        Command::ReadGroup => Spoken::Nothing,
+        Command::WriteVariable => Spoken::Nothing,
+        Command::WriteGroup => Spoken::Nothing,
+        Command::MaskVariable => Spoken::Nothing,
+        Command::MaskGroup => Spoken::Nothing,
+        Command::WriteRead => Spoken::Nothing,
+        Command::MakeGroup => Spoken::Nothing,
+        Command::RemoveGroups => Spoken::Nothing,
+        Command::ReadBlock => Spoken::Nothing,
+        Command::WriteBlock => Spoken::Nothing,
+        Command::Unknown => Spoken::Nothing,
     }
 }
 
-fn unanswered(v: Check, message: &[u8]) -> Outcome
-    requires { ⌜ Heard v (now message) ⌝ }
+fn unanswered(v: Check, message: &[u8]) -> Spoken
+    requires { ⌜ LongEnough v (now message) ⌝ }
     ensures { λ r. ⌜ Unanswered v (now (message .entry)) r ⌝ }
 {
     match v {
         Check::Pass => quiet(Command::of(message[0]), message),
-        Check::Fail(_) => Outcome::Silence,
+        Check::Fail(_) => Spoken::Nothing,
     }
 }
 
-// A message on a usable board, over what is lent.
-pub fn handle(
+// A message on a usable board, over what is lent. An answer's payload goes into the reply from `at` on.
+pub fn serve(
     due: bool,
     sizes: &[u8],
     writable: u64,
@@ -183,11 +162,14 @@ pub fn handle(
     message: &[u8],
     busy: u64,
     reply: &mut [u8],
-) -> Handled
-    requires { ⌜ Standing (now sizes) (now curves) (now functions) (now groups) (now values) (now blocks) ⌝ }
-    requires { ⌜ 4104 ≤ length (now reply) ⌝ }
-    ensures { λ r. ⌜ Leaves (answered due (handled (lentLayout (now (sizes .entry)) writable (now (curves .entry)) (now (functions .entry))) busy (now (message .entry)) (heldBy (lentLayout (now (sizes .entry)) writable (now (curves .entry)) (now (functions .entry))) (now (values .entry)) (now (blocks .entry)) (now (groups .entry)))))
-        (lentLayout (now (sizes .entry)) writable (now (curves .entry)) (now (functions .entry))) (now (groups .entry)) (now (reply .entry)) r (now (reply .exit)) (now (values .exit)) (now (blocks .exit)) ⌝ }
+    at: usize,
+) -> Served
+    requires { ⌜ SoundBoard (lentLayout (now sizes) writable (now curves) (now functions)) (lent (now values) (now blocks) (now groups)) ⌝ }
+    requires { ⌜ at + 4099 ≤ length (now reply) ⌝ }
+    ensures { λ r. let l = lentLayout (now (sizes .entry)) writable (now (curves .entry)) (now (functions .entry)) in
+        let x = lent (now (values .entry)) (now (blocks .entry)) (now (groups .entry)) in
+        let y = lent (now (values .exit)) (now (blocks .exit)) (now (groups .entry)) in
+        ⌜ ServedAs due l busy (now (message .entry)) x (now (reply .entry)) at (r .said) (r .regroup) (now (reply .exit)) y ⌝ }
 {
     let p = perform(
         sizes,
@@ -203,7 +185,7 @@ pub fn handle(
     let v = p.check;
     let regroup = p.regroup;
     if due {
-        let outcome = answered(
+        let said = respond(
             v,
             sizes,
             writable,
@@ -214,9 +196,10 @@ pub fn handle(
             blocks,
             message,
             reply,
+            at,
         );
-        return Handled { outcome, regroup };
+        return Served { said, regroup };
     }
-    let outcome = unanswered(v, message);
-    Handled { outcome, regroup }
+    let said = unanswered(v, message);
+    Served { said, regroup }
 }

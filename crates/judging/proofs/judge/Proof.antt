@@ -9,5 +9,5 @@ judge-spec =
     tie.close
     (tie.spec
     (λ c. search (judge-short, needs)) (λ c. search needs) (λ c. search needs) (λ c κs. search needs) (λ c. search needs)
-    (λ c. judge-size _ _ _ _ _ (c .before .before .before .before .if1 .left) (c .before .word .ensures) (c .if2 .taken)) (λ c. search needs) (λ c κs. search needs) (λ c. search needs) (λ c. search needs) (λ c. search needs)
+    (λ c. search (judge-size, needs)) (λ c. search needs) (λ c κs. search needs) (λ c. search needs) (λ c. search needs) (λ c. search needs)
     (λ c κs. search needs) (λ c. search (judge-rest, needs)))

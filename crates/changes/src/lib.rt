@@ -3,8 +3,9 @@ use bsmp::Command;
 use bsmp::Operation;
 ghost use Rattle.bsmp.specs.Message.{line};
 ghost use Rattle.parts.specs.Parts.{Passed};
-ghost use Rattle.judging.specs.Standing.{lentLayout, Standing};
-ghost use Rattle.effects.specs.Effects.{Stored};
+ghost use Rattle.records.specs.Lending.{lent};
+ghost use Rattle.judging.specs.Judging.{lentLayout, SoundBoard};
+ghost use Rattle.changes.specs.Changes.{ChangedBy};
 
 // What a message makes of the made groups.
 pub enum Regroup {
@@ -13,8 +14,8 @@ pub enum Regroup {
     Remove,
 }
 
-// Carries out a command that passed its tests: what it changes in the two stores, and what it makes of the made groups.
-pub fn effect(
+// Carries out a command that passed its tests: changes the two stores, and tells what becomes of the made groups.
+pub fn change(
     command: Command,
     sizes: &[u8],
     writable: u64,
@@ -22,13 +23,15 @@ pub fn effect(
     functions: &[u8],
     groups: &[u64],
     values: &mut [u8],
-    store: &mut [u8],
+    blocks: &mut [u8],
     payload: &[u8],
 ) -> Regroup
-    requires { ⌜ Standing (now sizes) (now curves) (now functions) (now groups) (now values) (now store) ⌝ }
+    requires { ⌜ SoundBoard (lentLayout (now sizes) writable (now curves) (now functions)) (lent (now values) (now blocks) (now groups)) ⌝ }
     requires { ⌜ Passed (lentLayout (now sizes) writable (now curves) (now functions)) (now groups) (now payload) command ⌝ }
-    ensures { λ r. ⌜ Stored (lentLayout (now (sizes .entry)) writable (now (curves .entry)) (now (functions .entry))) (line (lentLayout (now (sizes .entry)) writable (now (curves .entry)) (now (functions .entry))) (now (groups .entry)) (now (payload .entry)) command .change)
-        (now (groups .entry)) (now (values .entry)) (now (store .entry)) r (now (values .exit)) (now (store .exit)) ⌝ }
+    ensures { λ r. let l = lentLayout (now (sizes .entry)) writable (now (curves .entry)) (now (functions .entry)) in
+        let x = lent (now (values .entry)) (now (blocks .entry)) (now (groups .entry)) in
+        let y = lent (now (values .exit)) (now (blocks .exit)) (now (groups .entry)) in
+        ⌜ ChangedBy l x (line l (x .groups) (now (payload .entry)) command .change) r y ⌝ }
 {
     match command {
         Command::WriteVariable => {
@@ -56,9 +59,19 @@ pub fn effect(
         Command::MakeGroup => Regroup::Make(sets::set_of(payload)),
         Command::RemoveGroups => Regroup::Remove,
         Command::WriteBlock => {
-            curves::change(curves, store, payload);
+            curves::change(curves, blocks, payload);
             Regroup::Keep
         }
-        _ => Regroup::Keep,
+        Command::Version => Regroup::Keep,
+        Command::ListVariables => Regroup::Keep,
+        Command::ListGroups => Regroup::Keep,
+        Command::ShowGroup => Regroup::Keep,
+        Command::ListCurves => Regroup::Keep,
+        Command::ListFunctions => Regroup::Keep,
+        Command::ReadVariable => Regroup::Keep,
+        Command::ReadGroup => Regroup::Keep,
+        Command::ReadBlock => Regroup::Keep,
+        Command::RunFunction => Regroup::Keep,
+        Command::Unknown => Regroup::Keep,
     }
 }

@@ -1,0 +1,146 @@
+-- What a command that passed changes of what is lent, from what its change says of the part that it writes. Assumes nothing.
+use mathlib.Core.Path.{_≡_, refl, ap}
+use mathlib.Core.List.{List, [], _∷_, _++_, map}
+use Prim.Native.Nat.{ℕ, _<_}
+use lib.ListN.{length, drop, set, getD}
+use Rattle.bsmp.specs.Base.{cut, byteAt}
+use Rattle.bsmp.specs.Codes.{operationOf}
+use Rattle.bsmp.specs.Board.{Layout, sizeOf, members}
+use Rattle.bsmp.specs.Message.{nothing, edit, fill, regroup, variableAt, groupAt, line, edited, filled, after}
+use Rattle.bsmp.specs.Store.{Lent, held}
+use Rattle.bsmp.specs.declared.VariableNumber.{VariableNumber}
+use Rattle.bsmp.specs.declared.Curve.{Curve}
+use Rattle.bsmp.specs.declared.Function.{Function}
+use Rattle.bsmp.specs.declared.Operation.{Operation}
+use Rattle.bsmp.specs.declared.Operation.the-variants.{Replace}
+use Rattle.bsmp.specs.declared.Command.{Command}
+use Rattle.bsmp.specs.declared.Command.the-variants.{WriteVariable, WriteGroup, MaskVariable, MaskGroup, WriteRead, MakeGroup, RemoveGroups, WriteBlock}
+use Rattle.sets.specs.Promises.{Below, Named}
+use Rattle.parts.specs.Parts.{layoutOf, variablesOnly, Passed}
+use Rattle.records.specs.Lending.{lent}
+use Rattle.variables.specs.Fits.{OneFits}
+use Rattle.variables.proofs.Passes as variables
+use Rattle.groups.specs.Promises.{GroupFits}
+use Rattle.groups.proofs.Pass as groups
+use Rattle.curves.specs.Fits.{BlockFits, blocksIn, placeOf, namedBlock}
+use Rattle.curves.proofs.Passes as curves
+use Rattle.judging.specs.Judging.{SoundBoard}
+use Rattle.changes.specs.Changes.{regrouped, ChangedBy}
+use Rattle.changes.specs.declared.Regroup.{Regroup}
+use Rattle.changes.specs.declared.Regroup.the-variants.{Keep, Make, Remove}
+
+as-command : (l : Layout) (gs p : List ℕ) (k c : Command) → k ≡ c → Passed l gs p k → Passed l gs p c
+as-command l gs p k c e h = rw e at h
+
+module _ (ns : List ℕ) (w : ℕ) (cs : List Curve) (fs : List Function) (gs p : List ℕ) (k : Command) where
+  abbrev Passes : Type 0
+  Passes = Passed (layoutOf ns w cs fs) gs p k
+
+  -- what a pass says, as the changes ask it
+  pub write-needs : k ≡ WriteVariable → Passes → OneFits ns p 1
+  write-needs e h = variables.write-fits ns w cs fs gs p (as-command _ _ _ _ WriteVariable e h)
+
+  pub mask-needs : k ≡ MaskVariable → Passes → OneFits ns p 2
+  mask-needs e h = variables.mask-fits ns w cs fs gs p (as-command _ _ _ _ MaskVariable e h)
+
+  pub mask-operation : k ≡ MaskVariable → Passes → 1 < length p
+  mask-operation e h = variables.mask-second ns w cs fs gs p (as-command _ _ _ _ MaskVariable e h)
+
+  pub write-read-needs : k ≡ WriteRead → Passes → OneFits ns p 2
+  write-read-needs e h = variables.write-read-fits ns w cs fs gs p (as-command _ _ _ _ WriteRead e h)
+
+  pub group-write-needs : k ≡ WriteGroup → Passes → GroupFits (variablesOnly ns w) gs p 1
+  group-write-needs e h = groups.write-fits ns w cs fs gs p (as-command _ _ _ _ WriteGroup e h)
+
+  pub group-mask-needs : k ≡ MaskGroup → Passes → GroupFits (variablesOnly ns w) gs p 2
+  group-mask-needs e h = groups.mask-fits ns w cs fs gs p (as-command _ _ _ _ MaskGroup e h)
+
+  pub group-mask-operation : k ≡ MaskGroup → Passes → 1 < length p
+  group-mask-operation e h = groups.mask-some ns w cs fs gs p (as-command _ _ _ _ MaskGroup e h)
+
+  pub block-needs : k ≡ WriteBlock → Passes → BlockFits cs p
+  block-needs e h = curves.write-fits ns w cs fs gs p (as-command _ _ _ _ WriteBlock e h)
+
+  pub make-needs : (x : Lent) → SoundBoard (layoutOf ns w cs fs) x → k ≡ MakeGroup → Passes → Below 64 p
+  make-needs x s e h = groups.make-below ns w cs fs gs p (as-command _ _ _ _ MakeGroup e h) (s .variables .few)
+
+-- what is then left of what is lent
+module _ (l : Layout) (x : Lent) where
+  -- a change that leaves all as it was, one of the values alone, one of the blocks, and one of the made groups
+  kept : ChangedBy l x nothing Keep x
+  unfolding after
+  kept = record { holds = refl }
+
+  values-edited : (op : Operation) (is : List VariableNumber) (ps : List (List ℕ)) (vs : List ℕ) → cut (l .sizes) vs ≡ edited op is ps (cut (l .sizes) (x .values))
+      → ChangedBy l x (edit op is ps) Keep (lent vs (x .curves) (x .groups))
+  unfolding after
+  values-edited op is ps vs h = record { holds = ap (λ v. record { values = v; blocks = held l x .blocks; groups = x .groups }) h }
+
+  block-filled : (k : ℕ) (d bs : List ℕ) → blocksIn (l .curves) bs ≡ set (blocksIn (l .curves) (x .curves)) k (filled d (getD (blocksIn (l .curves) (x .curves)) k []))
+      → ChangedBy l x (fill k d) Keep (lent (x .values) bs (x .groups))
+  unfolding after
+  block-filled k d bs h = record { holds = ap (λ b. record { values = held l x .values; blocks = b; groups = x .groups }) h }
+
+  groups-made : (r : Regroup) (gs : List ℕ) → regrouped r (x .groups) ≡ gs → ChangedBy l x (regroup gs) r x
+  unfolding after
+  groups-made r gs h = record { holds = ap (λ g. record { values = held l x .values; blocks = held l x .blocks; groups = g }) h }
+
+  module _ (p : List ℕ) (k : Command) where
+    abbrev Changed : Regroup → Lent → Type 0
+    Changed = ChangedBy l x (line l (x .groups) p k .change)
+
+    -- commands that write to the values
+    module _ (vs : List ℕ) where
+      abbrev With : Lent
+      With = lent vs (x .curves) (x .groups)
+
+      abbrev Values : List (List ℕ)
+      Values = cut (l .sizes) (x .values)
+
+      pub written : k ≡ WriteVariable → cut (l .sizes) vs ≡ edited Replace (variableAt p 0 ∷ []) (drop 1 p ∷ []) Values → Changed Keep With
+      unfolding line
+      written e h = rw e (values-edited _ _ _ vs h)
+
+      pub masked : (op : Operation) → k ≡ MaskVariable → op ≡ operationOf (byteAt p 1)
+          → cut (l .sizes) vs ≡ edited op (variableAt p 0 ∷ []) (drop 2 p ∷ []) Values → Changed Keep With
+      unfolding line
+      masked op e o h = rw (e, ← o) (values-edited op _ _ vs h)
+
+      pub written-read : k ≡ WriteRead → cut (l .sizes) vs ≡ edited Replace (variableAt p 0 ∷ []) (drop 2 p ∷ []) Values → Changed Keep With
+      unfolding line
+      written-read e h = rw e (values-edited _ _ _ vs h)
+
+      abbrev Members : List VariableNumber
+      Members = members (variablesOnly (l .sizes) (l .writable)) (x .groups) (groupAt p 0)
+
+      abbrev groupEdited : Operation → ℕ → List (List ℕ)
+      groupEdited op n = edited op Members (cut (map (sizeOf (variablesOnly (l .sizes) (l .writable))) Members) (drop n p)) Values
+
+      pub group-written : k ≡ WriteGroup → cut (l .sizes) vs ≡ groupEdited Replace 1 → Changed Keep With
+      unfolding line members
+      group-written e h = rw e (values-edited _ _ _ vs h)
+
+      pub group-masked : (op : Operation) → k ≡ MaskGroup → op ≡ operationOf (byteAt p 1) → cut (l .sizes) vs ≡ groupEdited op 2 → Changed Keep With
+      unfolding line members
+      group-masked op e o h = rw (e, ← o) (values-edited op _ _ vs h)
+
+    pub block-written : (bs : List ℕ) → k ≡ WriteBlock
+        → blocksIn (l .curves) bs ≡ set (blocksIn (l .curves) (x .curves)) (placeOf (l .curves) p) (filled (drop 3 p) (namedBlock (l .curves) (x .curves) p))
+        → Changed Keep (lent (x .values) bs (x .groups))
+    unfolding line
+    block-written bs e h = rw e (block-filled _ _ bs h)
+
+    -- the made groups: one more, or none
+    pub group-made : (m : ℕ) → k ≡ MakeGroup → Passed l (x .groups) p k → Named p m → Changed (Make m) x
+    unfolding line
+    group-made m e h q =
+        let n = groups.make-set _ _ _ _ (x .groups) p m (as-command l (x .groups) p k MakeGroup e h) q in
+        rw e (groups-made (Make m) _ (ap (λ s. x .groups ++ s ∷ []) n))
+
+    pub groups-removed : k ≡ RemoveGroups → Changed Remove x
+    unfolding line
+    groups-removed e = rw e (groups-made Remove [] refl)
+
+    -- all others
+    pub nothing-changed : (c : Command) → k ≡ c → line l (x .groups) p c .change ≡ nothing → Changed Keep x
+    nothing-changed c e h = rw (e, h) kept

@@ -1,0 +1,13 @@
+-- `lend` meets its contract. Assumes nothing.
+use borrow.Author.Needs.{needs}
+use Rattle.node.proofs.Carrying.{carried-received}
+use Rattle.node.proofs.lend.Statement.{statement}
+use Rattle.node.proofs.lend.Tie as tie
+
+pub lend-spec : {M : Type 1} → statement M
+lend-spec =
+    tie.close
+    (tie.spec
+    (λ c. search needs) (λ c. search needs) (λ c. search needs)
+    (λ c. search needs) (λ c. search needs) (λ c. search needs)
+    (λ c κs. search needs) (λ c. search needs) (λ c. search needs) (λ c. search needs) (λ c. search (carried-received, needs)))
