@@ -19,7 +19,7 @@ use Rattle.bsmp.proofs.Store.{join-cut}
 use Rattle.records.specs.Lending.{recordsOf, groupsOf}
 use Rattle.records.proofs.Sound.{variables-most}
 use Rattle.wire.specs.Opening.{placed}
-use Rattle.node.specs.Promise.{tableWith, lasting}
+use Rattle.node.specs.Promise.{tableWith, packetLeftOf}
 use Rattle.results.specs.Results.{resultLeft, resultLeftOf, storeLeft, storeLeftOf}
 use Rattle.results.specs.declared.Stored.the-variants as S
 use Rattle.readings.specs.Answers.{writingLeftOf}
@@ -61,7 +61,7 @@ module _ (x : Lending) (own multicast busy : ℕ) (request reply : List ℕ) whe
     long-packet =
         let values = join-cut (layout (tableIn y) .sizes) (x .values) in
         let blocks = join-cut (blockSizes (layout (tableIn y) .curves)) (x .blocks) in
-        ap (λ z. plainPacketLeftOf (lasting z reply (x .groups))) stops
+        ap (λ z. plainPacketLeftOf (packetLeftOf z reply (x .groups))) stops
         ∙ (λ i. plainPacketLeft (plainOutcomeOf (O.Refused BoardUnusable)) (tableWith (groupsOf (x .groups)) (x .groups)) reply (values i) (blocks i))
 
   pub packet-same : packetOf (byColumns x) own multicast busy request reply ≡ packetOf x own multicast busy request reply

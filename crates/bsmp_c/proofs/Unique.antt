@@ -16,7 +16,7 @@ use Rattle.bsmp.specs.declared.Outcome.{Outcome}
 use Rattle.bsmp.specs.declared.Outcome.the-variants as O
 use Rattle.records.specs.declared.Groups.{Groups}
 use Rattle.wire.specs.Opening.{placed}
-use Rattle.node.specs.Promise.{Lasting, lasting}
+use Rattle.node.specs.Promise.{PacketLeft, packetLeftOf}
 use Rattle.node.proofs.Unique.{refused-keeps}
 use Rattle.results.specs.Results.{ranOf, ResultLeft, resultLeft, resultLeftOf, StoreLeft, storeLeft, storeLeftOf}
 use Rattle.results.specs.declared.Stored.{Stored}
@@ -65,7 +65,7 @@ pub packet-refused : (x : Lending) (own multicast busy : ℕ) (request reply : L
     → length (x .groups .sets) ≡ 5 → plainPacketLeft o g′ reply′ values′ blocks′ ≡ packetOf x own multicast busy request reply → o .kind ≡ 3
     → (reply′ ≡ reply) × (values′ ≡ x .values) × (blocks′ ≡ x .blocks) × (g′ ≡ x .groups)
 packet-refused x own multicast busy request reply o g′ reply′ values′ blocks′ five h k =
-    let y : Lasting = lasting (packet (tableIn x) (placed own multicast) busy (length reply) request (heldIn x)) reply (x .groups) in
+    let y : PacketLeft = packetLeftOf (packet (tableIn x) (placed own multicast) busy (length reply) request (heldIn x)) reply (x .groups) in
     let r = refused-kind (y .outcome) (sym (λ i. h i .outcome .kind) ∙ k) in
     let z = refused-keeps (tableIn x) (placed own multicast) busy request (x .groups) (r .0) (record { outcome = y .outcome; groups = y .groups })
     reply (y .reply) (x .values) (y .values) (x .blocks) (y .blocks) five (r .1) refl in

@@ -13,10 +13,9 @@ use Rattle.bsmp.specs.Apart.{arrives}
 use Rattle.bsmp.specs.declared.Refusal.the-variants.{BoardUnusable}
 use Rattle.bsmp.specs.declared.Outcome.{Outcome}
 use Rattle.bsmp.specs.declared.Outcome.the-variants as O
-use Rattle.bsmp.proofs.Chain.{first-stop}
-use Rattle.bsmp.proofs.Stays.{kept, stays}
+use Rattle.bsmp.proofs.Usable.{usable-parts, faults-none, faults-some}
+use Rattle.bsmp.proofs.Stays.{stays}
 use Rattle.bsmp.proofs.Store.{join-cut}
-use Rattle.parts.proofs.Told.{not-on}
 use Rattle.records.specs.Lending.{groupsOf, tableOf, lent}
 use Rattle.records.specs.declared.Records.{Records}
 use Rattle.records.specs.declared.Groups.{Groups}
@@ -28,7 +27,7 @@ use Rattle.judging.specs.Judging.{lentLayout}
 use Rattle.changes.specs.Changes.{regrouped}
 use Rattle.changes.specs.declared.Regroup.{Regroup}
 use Rattle.changes.specs.declared.Regroup.the-variants.{Keep, Make}
-use Rattle.node.specs.Promise.{tableWith, packetLeft, packetLeftOf, frontOf, Fits, BoardTold, BoardReady, ReceivedAs, CarriedAs}
+use Rattle.node.specs.Promise.{tableWith, packetLeft, packetLeftOf, frontOf, Fits, BoardTold, BoardReady, EndsAs, ReceivedAs, CarriedAs}
 use Rattle.node.proofs.Receiving.{stopped}
 
 -- any board ----------------------------------------------------------------------------------------------------------------------
@@ -42,7 +41,7 @@ module _ (r : Records) (cs fs : List ℕ) (g : Groups) (vs bs : List ℕ) (a : P
   pub carried-unusable : (c : Board) → BoardTold r cs fs g X c → c .usable ≡ false → o ≡ O.Refused BoardUnusable → q ≡ Keep → CarriedAs T a busy p X b o q b X
   unfolding packet
   carried-unusable c told u e f = record {
-    ends = stopped (layout T) X b _ BoardUnusable o q (first-stop _ _ _ _ _ _ _ (not-on _ (sym (board-usable T _ c (told .board)) ∙ u)) refl) e f;
+    ends = stopped (layout T) X b _ BoardUnusable o q (faults-some T (held (layout T) X) _ _ _ (sym (board-usable T _ c (told .board)) ∙ u) refl) e f;
   }
 
   abbrev made : List ℕ
@@ -57,7 +56,9 @@ module _ (r : Records) (cs fs : List ℕ) (g : Groups) (vs bs : List ℕ) (a : P
       let z : ReceivedAs (layout T) a busy p X b o q b′ (lent vs′ bs′ (groupsOf g)) =
       subst (λ gs. ReceivedAs (layout T) a busy p (lent vs bs gs) b o q b′ (lent vs′ bs′ gs)) (ready .groups-are)
       (subst (λ l. ReceivedAs l a busy p (lent vs bs made) b o q b′ (lent vs′ bs′ made)) (ready .layout-is) h) in
-      record { ends = rw (ready .usable-is) (z .ends) }
+      record {
+        ends = subst (λ w. EndsAs w (layout T) b o q b′ (lent vs′ bs′ (groupsOf g))) (faults-none T (held (layout T) X) (refuse (held (layout T) X)) _ _ (ready .usable-is) refl) (z .ends);
+      }
 
 -- .. and the group table that it leaves -----------------------------------------------------------------------------------------
 module _ (t : Table) (a : Place) (busy : ℕ) (p vs bs : List ℕ) (g : Groups) (b : List ℕ) (o : Outcome) (r : Regroup) (b′ vs′ bs′ : List ℕ)
@@ -76,12 +77,12 @@ module _ (t : Table) (a : Place) (busy : ℕ) (p vs bs : List ℕ) (g : Groups) 
   unfolding packet
   few true u n e =
       let m : groupsOf g ++ n ∷ [] ≡ Z .state .groups = ap (λ y. regrouped y (groupsOf g)) (sym e) ∙ groups-are in
-      let w = kept t (Z .state) (stays t a (arrives busy (length b) p) S u) in
+      let w = usable-parts t (Z .state) (stays t a (arrives busy (length b) p) S u) in
       let l : length (groupsOf g ++ n ∷ []) ≤ 5 = rw m (groups-most _ (Z .state .groups) (w .groups)) in
       let c : length (groupsOf g ++ n ∷ []) ≡ length (groupsOf g) + 1 = simp length-append in
       omega (arith, group-count g)
   few false u n e =
-      let z : refuse S BoardUnusable ≡ Z = first-stop _ _ _ _ _ _ _ (not-on _ u) refl in
+      let z : refuse S BoardUnusable ≡ Z = faults-some t S (refuse S) _ _ u refl in
       let m : groupsOf g ++ n ∷ [] ≡ groupsOf g = ap (λ y. regrouped y (groupsOf g)) (sym e) ∙ groups-are ∙ sym (ap (λ y. y .state .groups) z) in
       let c : length (groupsOf g ++ n ∷ []) ≡ length (groupsOf g) + 1 = simp length-append in
       absurd (omega (arith, c, ap length m))

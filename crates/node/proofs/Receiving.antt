@@ -10,7 +10,7 @@ use lib.ListN.{length}
 use Rattle.bsmp.specs.Base.{first}
 use Rattle.bsmp.specs.Board.{Layout, State}
 use Rattle.bsmp.specs.Message.{Said, replies, runs, handled}
-use Rattle.bsmp.specs.Packet.{Result, refuse, usablePlace, packetTests, isOwn, destination, message, answered, frame, ends}
+use Rattle.bsmp.specs.Packet.{Result, refuse, usablePlace, packetTests, isOwn, destination, message, frame, ends, served}
 use Rattle.bsmp.specs.Store.{Lent, held, outcomeOf, shown}
 use Rattle.bsmp.specs.declared.FunctionNumber.{FunctionNumber}
 use Rattle.bsmp.specs.declared.Refusal.{Refusal}
@@ -92,7 +92,7 @@ module _ (l : Layout) (own mc busy : ℕ) (p : List ℕ) (x : Lent) (b : List �
 
   pub receive-place : (o : Outcome) (g : Regroup) → not u ≡ true → o ≡ O.Refused BadAddress → g ≡ Keep → Receives o g b x
   receive-place o g v e f = record {
-    ends = stopped l x b Received BadAddress o g (first-next _ _ _ _ _ _ _ refl (first-stop _ _ _ _ _ _ _ (ap not (sym pl) ∙ v) refl)) e f;
+    ends = stopped l x b Received BadAddress o g (first-stop _ _ _ _ _ _ _ (ap not (sym pl) ∙ v) refl) e f;
   }
 
   module _ (v : not u ≡ false) where
@@ -100,16 +100,16 @@ module _ (l : Layout) (own mc busy : ℕ) (p : List ℕ) (x : Lent) (b : List �
     receive-short o g n e f = record {
       ends =
           stopped l x b Received ReplyBufferShort o g
-          (first-next _ _ _ _ _ _ _ refl (first-next _ _ _ _ _ _ _ (ap not (sym pl) ∙ v) (first-stop _ _ _ _ _ _ _ (lt-ltb _ _ n) refl))) e f;
+          (first-next _ _ _ _ _ _ _ (ap not (sym pl) ∙ v) (first-stop _ _ _ _ _ _ _ (lt-ltb _ _ n) refl)) e f;
     }
 
     module _ (room : 4104 ≤ length b) (d : Opened) (e : d ≡ openedOf (placed own mc) p) where
       -- the packet's own tests are left
       opening : (z : Result)
-          → z ≡ first (packetTests (placed own mc) p) (refuse (held l x)) (answered (isOwn (placed own mc) (destination p)) (handled l busy (message p) (held l x)))
+          → z ≡ first (packetTests (placed own mc) p) (refuse (held l x)) (served l busy (isOwn (placed own mc) (destination p)) (message p) (held l x))
           → z ≡ Received
       opening z q =
-          first-next _ _ _ _ _ _ _ refl (first-next _ _ _ _ _ _ _ (ap not (sym pl) ∙ v) (first-next _ _ _ _ _ _ _ (le-ltb _ _ room) (first-end _ _ _ q)))
+          first-next _ _ _ _ _ _ _ (ap not (sym pl) ∙ v) (first-next _ _ _ _ _ _ _ (le-ltb _ _ room) (first-end _ _ _ q))
 
       pub receive-refused : (o : Outcome) (n : Refusal) → d ≡ Refused n → o ≡ unopenedOf d → Receives o Keep b x
       receive-refused o n q f = record {
@@ -119,14 +119,15 @@ module _ (l : Layout) (own mc busy : ℕ) (p : List ℕ) (x : Lent) (b : List �
 
       pub receive-served : (due : Bool) (s : Spoken) (g : Regroup) (b₁ : List ℕ) (y : Lent) (o : Outcome) (b₂ : List ℕ) → d ≡ Message due
           → ServedAs due l busy (midOf 1 (length p - 1 - 1) p) x b 4 s g b₁ y → Closed due s b₁ o b₂ → Receives o g b₂ y
+      unfolding served
       receive-served due s g b₁ y o b₂ q h k =
           let m : List ℕ = midOf 1 (length p - 1 - 1) p in
           let w = ended b s b₁ o b₂ room due (handled l busy m (held l x) .says) (h .spoke) k in
-          let r : EndsAs (answered due (handled l busy m (held l x))) l b o g b₂ y = record { outcome = w .0; reply = w .1; holds = h .holds } in
+          let r : EndsAs (served l busy due m (held l x)) l b o g b₂ y = record { outcome = w .0; reply = w .1; holds = h .holds } in
           record {
             ends =
                 subst (λ z. EndsAs z l b o g b₂ y)
                 (opening _
                 (message-first own mc p (refuse (held l x)) _ _ d due e q
-                (ap₂ (λ t n. answered t (handled l busy n (held l x))) (message-due own mc p d due e q) (message-lent p)))) r;
+                (ap₂ (λ t n. served l busy t n (held l x)) (message-due own mc p d due e q) (message-lent p)))) r;
           }

@@ -7,8 +7,7 @@ use borrow.Rule.Slice.PartMut.{midOf}
 use lib.ListN.{length, take, drop}
 use Rattle.bsmp.specs.Base.{join, first}
 use Rattle.bsmp.specs.Board.{Table, Layout, layout, State, usable}
-use Rattle.bsmp.specs.Message.{handled}
-use Rattle.bsmp.specs.Packet.{Place, Result, refuse, boardTests, packetTests, answered, isOwn, destination, message, frame, packet}
+use Rattle.bsmp.specs.Packet.{Place, Result, refuse, placeTests, packetTests, isOwn, destination, message, frame, served, packet}
 use Rattle.bsmp.specs.Store.{Lent, held, outcomeOf, shown}
 use Rattle.bsmp.specs.declared.Outcome.{Outcome}
 use Rattle.bsmp.specs.declared.Outcome.the-variants as O
@@ -87,9 +86,9 @@ pub record Fits (r : Regroup) (g : Groups) : Type 0 where
 -- a packet on a usable board
 abbrev pub receivedOf : Layout → Place → (busy room : ℕ) → (request : List ℕ) → State → Result
 receivedOf l a busy room p s =
-    first (boardTests true a room) (refuse s)
+    first (placeTests a room) (refuse s)
     (first (packetTests a p) (refuse s)
-    (answered (isOwn a (destination p)) (handled l busy (message p) s)))
+    (served l busy (isOwn a (destination p)) (message p) s))
 
 -- what the work leaves before the table is regrouped: g becomes of the made groups, and y, regrouped, holds what the definition gives
 pub record EndsAs (z : Result) (l : Layout) (b : List ℕ) (o : Outcome) (g : Regroup) (b′ : List ℕ) (y : Lent) : Type 0 where

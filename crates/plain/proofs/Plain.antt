@@ -11,7 +11,7 @@ use Rattle.bsmp.specs.Number.{Reading, writing}
 use Rattle.bsmp.specs.declared.Variable.{Variable}
 use Rattle.bsmp.specs.declared.FunctionNumber.{FunctionNumber}
 use Rattle.bsmp.specs.declared.Outcome.{Outcome}
-use Rattle.node.specs.Promise.{Lasting, left}
+use Rattle.node.specs.Promise.{PacketLeft, packetLeft}
 use Rattle.node.specs.declared.Done.{Done}
 use Rattle.results.specs.Results.{ranOf, resultLeft, resultLeftOf, StoreLeft, storeLeft}
 use Rattle.results.specs.declared.Ran.{Ran}
@@ -28,7 +28,7 @@ use Rattle.plain.specs.declared.PlainOutcome.{PlainOutcome}
 pub signed-plain : (x : SignedReading) (z z′ : ℤ) → x ≡ Is z → z′ ≡ z → plainReading 0 z′ ≡ plainReadingOf (signedReadingOf x)
 signed-plain x z z′ e q = rw e (ap (λ (y : ℤ). plainReading 0 y) q)
 
-pub packet-plain : (d : Done) (o : PlainOutcome) (x : Lasting) (r vs bs : List ℕ) → left d r vs bs ≡ x → o ≡ plainOutcomeOf (d .outcome)
+pub packet-plain : (d : Done) (o : PlainOutcome) (x : PacketLeft) (r vs bs : List ℕ) → packetLeft d r vs bs ≡ x → o ≡ plainOutcomeOf (d .outcome)
     → plainPacketLeft o (d .groups) r vs bs ≡ plainPacketLeftOf x
 packet-plain d o x r vs bs e q = ap (λ (u : PlainOutcome). plainPacketLeft u (d .groups) r vs bs) q ∙ ap plainPacketLeftOf e
 

@@ -10,7 +10,7 @@ use Rattle.bsmp.specs.Number.{reading, writing}
 use Rattle.bsmp.specs.declared.Variable.{Variable}
 use Rattle.records.specs.declared.Groups.{Groups}
 use Rattle.wire.specs.Opening.{placed}
-use Rattle.node.specs.Promise.{Lasting, lasting}
+use Rattle.node.specs.Promise.{PacketLeft, packetLeftOf}
 use Rattle.results.specs.Results.{ranOf, ResultLeft, resultLeftOf, StoreLeft, storeLeftOf}
 use Rattle.readings.specs.Answers.{WritingLeft, writingLeftOf}
 use Rattle.plain.specs.Lending.{Lending, tableIn, heldIn}
@@ -28,12 +28,12 @@ pub record PlainPacketLeft : Type 0 where
 abbrev pub plainPacketLeft : PlainOutcome → Groups → (reply values blocks : List ℕ) → PlainPacketLeft
 plainPacketLeft o g r vs bs = record { outcome = o; groups = g; reply = r; values = vs; blocks = bs }
 
-abbrev pub plainPacketLeftOf : Lasting → PlainPacketLeft
+abbrev pub plainPacketLeftOf : PacketLeft → PlainPacketLeft
 plainPacketLeftOf x = plainPacketLeft (plainOutcomeOf (x .outcome)) (x .groups) (x .reply) (x .values) (x .blocks)
 
 abbrev pub packetOf : Lending → (own multicast busy : ℕ) → (request reply : List ℕ) → PlainPacketLeft
 packetOf x own multicast busy request reply =
-    plainPacketLeftOf (lasting (packet (tableIn x) (placed own multicast) busy (length reply) request (heldIn x)) reply (x .groups))
+    plainPacketLeftOf (packetLeftOf (packet (tableIn x) (placed own multicast) busy (length reply) request (heldIn x)) reply (x .groups))
 
 -- a function's result leaves its outcome and the reply buffer
 pub record PlainResultLeft : Type 0 where
