@@ -1,4 +1,4 @@
--- Made by tools/walks/gen_thin.py: the walk of every thin entry of the shape (variables: records, curves: shr, functions: shr, groups: state, address: int, multicast: int, busy: int, values: mut, blocks: mut, request: shr, reply: mut).
+-- Made by tools/walks/gen_thin.py: the walk of every thin entry of the shape (variables: records, curves: shr, functions: shr, groups: state, own: int, multicast: int, busy: int, values: mut, blocks: mut, request: shr, reply: mut).
 -- An entry's own `Proof` cites `meets` at its `turnOf`, the law `agree` and its callees' keys. Assumes nothing.
 use mathlib.Core.Path.{_≡_, refl, sym, ap, subst, _∙_}
 use Prim.Native.Nat.{ℕ}
@@ -97,7 +97,7 @@ TurnOf = List Variable → List ℕ → List ℕ → Groups → ℕ → ℕ → 
 
 -- what a call comes to by the records that the table says is what it comes to by the lent ones
 abbrev pub Agree : TurnOf → Type 0
-Agree turnOf = (variables : List Variable) (curves : List ℕ) (functions : List ℕ) (groups : Groups) (address : ℕ) (multicast : ℕ) (busy : ℕ) (values : List ℕ) (blocks : List ℕ) (request : List ℕ) (reply : List ℕ) → turnOf (recordsOf (columnsOf variables)) curves functions groups address multicast busy values blocks request reply ≡ turnOf variables curves functions groups address multicast busy values blocks request reply
+Agree turnOf = (variables : List Variable) (curves : List ℕ) (functions : List ℕ) (groups : Groups) (own : ℕ) (multicast : ℕ) (busy : ℕ) (values : List ℕ) (blocks : List ℕ) (request : List ℕ) (reply : List ℕ) → turnOf (recordsOf (columnsOf variables)) curves functions groups own multicast busy values blocks request reply ≡ turnOf variables curves functions groups own multicast busy values blocks request reply
 
 abbrev pub clauses : TurnOf → {M : Type 1} (𝓤 : URA M) → Clauses 𝓤 ended
 clauses turnOf 𝓤 κs a = record { ghost = Unit {0}; requires = λ _. emp 𝓤; ensures = λ _ r e. fact 𝓤 (plainPacketLeft r (now (e .1 .1 .1 .0)) (now (e .1 .1 .1 .1 .1 .1 .1 .1 .1 .1 .0)) (now (e .1 .1 .1 .1 .1 .1 .1 .0)) (now (e .1 .1 .1 .1 .1 .1 .1 .1 .0)) ≡ turnOf (now (a .0)) (now (a .1 .0)) (now (a .1 .1 .0)) (now (a .1 .1 .1 .0)) (a .1 .1 .1 .1 .0) (a .1 .1 .1 .1 .1 .0) (a .1 .1 .1 .1 .1 .1 .0) (now (a .1 .1 .1 .1 .1 .1 .1 .0)) (now (a .1 .1 .1 .1 .1 .1 .1 .1 .0)) (now (a .1 .1 .1 .1 .1 .1 .1 .1 .1 .0)) (now (a .1 .1 .1 .1 .1 .1 .1 .1 .1 .1 .0))) }
@@ -113,7 +113,7 @@ module _ {M : Type 1} (𝓤 : URA M) (H : Heap 𝓤) (A : Atoms 𝓤) where
   Work turnOf = tripleOf 𝓤 H A work-signature (closing 𝓤 H A work-ended (work-clauses turnOf 𝓤))
 
 module _ (turnOf : TurnOf) (agree : Agree turnOf) (kt kc : Name) {M : Type 1} (𝓤 : URA M) (H : Heap 𝓤) (A : Atoms 𝓤) (W : Given 𝓤 H A) (at-mem : Memory → SProp 𝓤) (run : Routine → Fun 𝓤)
-    (κ-variables κ-curves κ-functions κ-groups κ-values κ-blocks κ-request κ-reply : Lft) (q-variables q-curves q-functions q-groups q-values q-blocks q-request q-reply : Share) (variables : RefT (List Variable)) (curves : RefT (List ℕ)) (functions : RefT (List ℕ)) (b-groups o-groups : ℕ) (γ-groups : GName) (h-groups : Groups) (address : ℕ) (is-address : Is u8 address (vint w8 address ∷ [])) (multicast : ℕ) (is-multicast : Is u8 multicast (vint w8 multicast ∷ [])) (busy : ℕ) (is-busy : Is u64 busy (vint w64 busy ∷ [])) (values : RefT (List ℕ)) (blocks : RefT (List ℕ)) (request : RefT (List ℕ)) (reply : RefT (List ℕ)) where
+    (κ-variables κ-curves κ-functions κ-groups κ-values κ-blocks κ-request κ-reply : Lft) (q-variables q-curves q-functions q-groups q-values q-blocks q-request q-reply : Share) (variables : RefT (List Variable)) (curves : RefT (List ℕ)) (functions : RefT (List ℕ)) (b-groups o-groups : ℕ) (γ-groups : GName) (h-groups : Groups) (own : ℕ) (is-own : Is u8 own (vint w8 own ∷ [])) (multicast : ℕ) (is-multicast : Is u8 multicast (vint w8 multicast ∷ [])) (busy : ℕ) (is-busy : Is u64 busy (vint w64 busy ∷ [])) (values : RefT (List ℕ)) (blocks : RefT (List ℕ)) (request : RefT (List ℕ)) (reply : RefT (List ℕ)) where
   abbrev x-groups : RefT Groups
   x-groups = record { ptr = (b-groups, o-groups); name = γ-groups; now = h-groups }
 
@@ -121,10 +121,10 @@ module _ (turnOf : TurnOf) (agree : Agree turnOf) (kt kc : Name) {M : Type 1} (�
   slice s = sliceVal (s .ptr) (length (s .now))
 
   abbrev a : Args signature (κ-variables, (κ-curves, (κ-functions, (κ-groups, (κ-values, (κ-blocks, (κ-request, (κ-reply, tt))))))))
-  a = (variables, (curves, (functions, (x-groups, (address, (multicast, (busy, (values, (blocks, (request, (reply, tt)))))))))))
+  a = (variables, (curves, (functions, (x-groups, (own, (multicast, (busy, (values, (blocks, (request, (reply, tt)))))))))))
 
   abbrev at : Vals signature (κ-variables, (κ-curves, (κ-functions, (κ-groups, (κ-values, (κ-blocks, (κ-request, (κ-reply, tt))))))))
-  at = (slice variables ∷ [], (slice curves ∷ [], (slice functions ∷ [], (vptr b-groups o-groups ∷ [], (vint w8 address ∷ [], (vint w8 multicast ∷ [], (vint w64 busy ∷ [], (slice values ∷ [], (slice blocks ∷ [], (slice request ∷ [], (slice reply ∷ [], tt)))))))))))
+  at = (slice variables ∷ [], (slice curves ∷ [], (slice functions ∷ [], (vptr b-groups o-groups ∷ [], (vint w8 own ∷ [], (vint w8 multicast ∷ [], (vint w64 busy ∷ [], (slice values ∷ [], (slice blocks ∷ [], (slice request ∷ [], (slice reply ∷ [], tt)))))))))))
 
   abbrev bound : walkOf 𝓤 H A ended stayed (clauses turnOf 𝓤) .Ghost
   bound = (((κ-variables, (κ-curves, (κ-functions, (κ-groups, (κ-values, (κ-blocks, (κ-request, (κ-reply, tt)))))))), (q-variables, (q-curves, (q-functions, (q-groups, (q-values, (q-blocks, (q-request, (q-reply, tt)))))))), tt, a, at), tt)
@@ -183,15 +183,15 @@ module _ (turnOf : TurnOf) (agree : Agree turnOf) (kt kc : Name) {M : Type 1} (�
 
   -- ---- the work
   abbrev turn : PlainPacketLeft
-  turn = turnOf (recordsOf tbl) (now curves) (now functions) h-groups address multicast busy (now values) (now blocks) (now request) (now reply)
+  turn = turnOf (recordsOf tbl) (now curves) (now functions) h-groups own multicast busy (now values) (now blocks) (now request) (now reply)
 
   abbrev to-work : Work 𝓤 H A turnOf .Ghost
-  to-work = (((κ-curves, (κ-functions, (κ-values, (κ-blocks, (κ-request, (κ-reply, tt)))))), (q-curves, (q-functions, (q-values, (q-blocks, (q-request, (q-reply, tt)))))), tt, (tbl, (curves, (functions, (h-groups, (address, (multicast, (busy, (values, (blocks, (request, (reply, tt))))))))))), (LL.val M2.the-type M2′.the-laws tbl ∷ [], (slice curves ∷ [], (slice functions ∷ [], (LL.val M4.the-type M4′.the-laws h-groups ∷ [], (vint w8 address ∷ [], (vint w8 multicast ∷ [], (vint w64 busy ∷ [], (slice values ∷ [], (slice blocks ∷ [], (slice request ∷ [], (slice reply ∷ [], tt)))))))))))), tt)
+  to-work = (((κ-curves, (κ-functions, (κ-values, (κ-blocks, (κ-request, (κ-reply, tt)))))), (q-curves, (q-functions, (q-values, (q-blocks, (q-request, (q-reply, tt)))))), tt, (tbl, (curves, (functions, (h-groups, (own, (multicast, (busy, (values, (blocks, (request, (reply, tt))))))))))), (LL.val M2.the-type M2′.the-laws tbl ∷ [], (slice curves ∷ [], (slice functions ∷ [], (LL.val M4.the-type M4′.the-laws h-groups ∷ [], (vint w8 own ∷ [], (vint w8 multicast ∷ [], (vint w64 busy ∷ [], (slice values ∷ [], (slice blocks ∷ [], (slice request ∷ [], (slice reply ∷ [], tt)))))))))))), tt)
 
   goes-work : IsT → Is M4.the-row h-groups (LL.val M4.the-type M4′.the-laws h-groups ∷ []) → ent 𝓤 (⋆ 𝓤 H A (‵ O-curves ∷ ‵ O-functions ∷ ‵ O-values ∷ ‵ O-blocks ∷ ‵ O-request ∷ ‵ O-reply ∷ ‵ (flft κ-curves q-curves) ∷ ‵ (flft κ-functions q-functions) ∷ ‵ (flft κ-values q-values) ∷ ‵ (flft κ-blocks q-blocks) ∷ ‵ (flft κ-request q-request) ∷ ‵ (flft κ-reply q-reply) ∷ [])) (sep 𝓤 (Work 𝓤 H A turnOf .pre to-work) (mean 𝓤 H A (‵ O-curves ⊛ ‵ O-functions ⊛ ‵ O-request)))
   goes-work is-table was-groups =
       qed W (‵ O-curves ∷ ‵ O-functions ∷ ‵ O-values ∷ ‵ O-blocks ∷ ‵ O-request ∷ ‵ O-reply ∷ ‵ (flft κ-curves q-curves) ∷ ‵ (flft κ-functions q-functions) ∷ ‵ (flft κ-values q-values) ∷ ‵ (flft κ-blocks q-blocks) ∷ ‵ (flft κ-request q-request) ∷ ‵ (flft κ-reply q-reply) ∷ []) ∵
-      use1 W (‵ O-curves ⊛ ‵ O-curves) (shr-slice-copy 𝓤 H A W (named 1) κ-curves u32 .twice curves (slice curves ∷ [])) $ split ! $ move ! (2 ∷ []) $ use1 W (‵ O-functions ⊛ ‵ O-functions) (shr-slice-copy 𝓤 H A W (named 2) κ-functions u8 .twice functions (slice functions ∷ [])) $ split ! $ move ! (6 ∷ []) $ use1 W (‵ O-request ⊛ ‵ O-request) (shr-slice-copy 𝓤 H A W (named 6) κ-request u8 .twice request (slice request ∷ [])) $ split ! $ owned ! M2.the-row (Is M2.the-row) (LL.makes M2.the-type M2′.the-plain 𝓤 H A) tbl _ is-table $ owned ! M4.the-row (Is M4.the-row) (LL.makes M4.the-type M4′.the-plain 𝓤 H A) h-groups _ was-groups $ owned ! u8 (Is u8) (uint-makes 𝓤 H A W w8) address _ is-address $ owned ! u8 (Is u8) (uint-makes 𝓤 H A W w8) multicast _ is-multicast $ owned ! u64 (Is u64) (uint-makes 𝓤 H A W w64) busy _ is-busy $ nothing ! $ move ! (5 ∷ 10 ∷ 8 ∷ 4 ∷ 3 ∷ 2 ∷ 1 ∷ 12 ∷ 13 ∷ 6 ∷ 14 ∷ 0 ∷ []) $ group ! 12 $ nothing ! $ move ! (5 ∷ 6 ∷ 7 ∷ 8 ∷ 9 ∷ 10 ∷ 0 ∷ []) $ group ! 7 $ group ! 2 $ nothing ! $ move ! (1 ∷ 0 ∷ []) $ group ! 2 $ move ! (0 ∷ 3 ∷ 2 ∷ 1 ∷ []) $ done !
+      use1 W (‵ O-curves ⊛ ‵ O-curves) (shr-slice-copy 𝓤 H A W (named 1) κ-curves u32 .twice curves (slice curves ∷ [])) $ split ! $ move ! (2 ∷ []) $ use1 W (‵ O-functions ⊛ ‵ O-functions) (shr-slice-copy 𝓤 H A W (named 2) κ-functions u8 .twice functions (slice functions ∷ [])) $ split ! $ move ! (6 ∷ []) $ use1 W (‵ O-request ⊛ ‵ O-request) (shr-slice-copy 𝓤 H A W (named 6) κ-request u8 .twice request (slice request ∷ [])) $ split ! $ owned ! M2.the-row (Is M2.the-row) (LL.makes M2.the-type M2′.the-plain 𝓤 H A) tbl _ is-table $ owned ! M4.the-row (Is M4.the-row) (LL.makes M4.the-type M4′.the-plain 𝓤 H A) h-groups _ was-groups $ owned ! u8 (Is u8) (uint-makes 𝓤 H A W w8) own _ is-own $ owned ! u8 (Is u8) (uint-makes 𝓤 H A W w8) multicast _ is-multicast $ owned ! u64 (Is u64) (uint-makes 𝓤 H A W w64) busy _ is-busy $ nothing ! $ move ! (5 ∷ 10 ∷ 8 ∷ 4 ∷ 3 ∷ 2 ∷ 1 ∷ 12 ∷ 13 ∷ 6 ∷ 14 ∷ 0 ∷ []) $ group ! 12 $ nothing ! $ move ! (5 ∷ 6 ∷ 7 ∷ 8 ∷ 9 ∷ 10 ∷ 0 ∷ []) $ group ! 7 $ group ! 2 $ nothing ! $ move ! (1 ∷ 0 ∷ []) $ group ! 2 $ move ! (0 ∷ 3 ∷ 2 ∷ 1 ∷ []) $ done !
 
   -- what is had of the work: its answer, and the last lists
   abbrev Ans : Type 0
@@ -226,16 +226,16 @@ module _ (turnOf : TurnOf) (agree : Agree turnOf) (kt kc : Name) {M : Type 1} (�
   exits : (u : Val) (y : Ans) → Known u y → ent 𝓤 (⋆ 𝓤 H A (‵ (Obs-groups (y .0 .groups)) ∷ ‵ Bor-groups ∷ ‵ (flft κ-groups q-groups) ∷ Had y ∷ (‵ O-curves ⊛ ‵ O-functions ⊛ ‵ O-request) ∷ ‵ (flft κ-variables q-variables) ∷ ‵ O-variables ∷ [])) (Post (LL.val M0.the-type M0′.the-laws (y .0 .outcome)))
   exits u y e =
       qed W (‵ (Obs-groups (y .0 .groups)) ∷ ‵ Bor-groups ∷ ‵ (flft κ-groups q-groups) ∷ Had y ∷ (‵ O-curves ⊛ ‵ O-functions ⊛ ‵ O-request) ∷ ‵ (flft κ-variables q-variables) ∷ ‵ O-variables ∷ []) ∵ suffices ! _ (ends-at 𝓤 H A ended stayed (clauses turnOf 𝓤) W bound (LL.val M0.the-type M0′.the-laws (y .0 .outcome)) (y .0 .outcome) (tt, (tt, (tt, ((y .0 .groups), (tt, (tt, (tt, (y .1 .0, (y .1 .1 .0, (tt, (y .1 .1 .1 .0, tt))))))))))) (tt, (tt, (tt, (tt, (tt, (tt, (tt, (e .len-values, (e .len-blocks, (tt, (e .len-reply, tt)))))))))))) $
-      says ! (e .said ∙ agree (now variables) (now curves) (now functions) h-groups address multicast busy (now values) (now blocks) (now request) (now reply)) $
-      feqI ! (List Val) (vptr b-groups o-groups ∷ []) (vptr b-groups o-groups ∷ []) refl $ fjoin3 ! $ move ! (2 ∷ []) $ split ! $ move ! (1 ∷ []) $ split ! $ move ! (1 ∷ []) $ split ! $ move ! (1 ∷ []) $ split ! $ move ! (1 ∷ []) $ split ! $ move ! (1 ∷ []) $ split ! $ move ! (1 ∷ []) $ split ! $ move ! (1 ∷ []) $ split ! $ move ! (11 ∷ []) $ split ! $ move ! (1 ∷ []) $ split ! $ owned ! u8 (Is u8) (uint-makes 𝓤 H A W w8) address _ is-address $ owned ! u8 (Is u8) (uint-makes 𝓤 H A W w8) multicast _ is-multicast $ owned ! u64 (Is u64) (uint-makes 𝓤 H A W w64) busy _ is-busy $ nothing ! $ move ! (18 ∷ 15 ∷ 14 ∷ 17 ∷ 13 ∷ 12 ∷ 11 ∷ 10 ∷ 0 ∷ []) $ group ! 9 $ frame ! $ nothing ! $ move ! (11 ∷ 6 ∷ 4 ∷ 10 ∷ 3 ∷ 2 ∷ 1 ∷ 9 ∷ 7 ∷ 5 ∷ 8 ∷ 0 ∷ []) $ group ! 12 $ owned ! M0.the-row (Is M0.the-row) (LL.makes M0.the-type M0′.the-plain 𝓤 H A) (y .0 .outcome) _ (out-is (y .0) (e .is)) $ keep ! (1 ∷ 0 ∷ []) $ done !
+      says ! (e .said ∙ agree (now variables) (now curves) (now functions) h-groups own multicast busy (now values) (now blocks) (now request) (now reply)) $
+      feqI ! (List Val) (vptr b-groups o-groups ∷ []) (vptr b-groups o-groups ∷ []) refl $ fjoin3 ! $ move ! (2 ∷ []) $ split ! $ move ! (1 ∷ []) $ split ! $ move ! (1 ∷ []) $ split ! $ move ! (1 ∷ []) $ split ! $ move ! (1 ∷ []) $ split ! $ move ! (1 ∷ []) $ split ! $ move ! (1 ∷ []) $ split ! $ move ! (1 ∷ []) $ split ! $ move ! (11 ∷ []) $ split ! $ move ! (1 ∷ []) $ split ! $ owned ! u8 (Is u8) (uint-makes 𝓤 H A W w8) own _ is-own $ owned ! u8 (Is u8) (uint-makes 𝓤 H A W w8) multicast _ is-multicast $ owned ! u64 (Is u64) (uint-makes 𝓤 H A W w64) busy _ is-busy $ nothing ! $ move ! (18 ∷ 15 ∷ 14 ∷ 17 ∷ 13 ∷ 12 ∷ 11 ∷ 10 ∷ 0 ∷ []) $ group ! 9 $ frame ! $ nothing ! $ move ! (11 ∷ 6 ∷ 4 ∷ 10 ∷ 3 ∷ 2 ∷ 1 ∷ 9 ∷ 7 ∷ 5 ∷ 8 ∷ 0 ∷ []) $ group ! 12 $ owned ! M0.the-row (Is M0.the-row) (LL.makes M0.the-type M0′.the-plain 𝓤 H A) (y .0 .outcome) _ (out-is (y .0) (e .is)) $ keep ! (1 ∷ 0 ∷ []) $ done !
 
   module _ (C : Calls 𝓤 H) (Λ : Loops 𝓤 H) (fm : FmC 𝓤 H (W .laws) C) (known-table : Triple 𝓤 (C kt) (TableOf 𝓤 H A at-mem run)) (known-work : Triple 𝓤 (C kc) (Work 𝓤 H A turnOf)) where
-    walk : Room M3.the-row (length (now variables)) → Room u32 (length (now curves)) → Room u8 (length (now functions)) → Room u8 (length (now values)) → Room u8 (length (now blocks)) → Room u8 (length (now request)) → Room u8 (length (now reply)) → ent 𝓤 (onEntry 𝓤 H A signature (bound .0 .0) (bound .0 .1) a at) (WpFn 𝓤 H C Λ (function kt kc) (slice variables ∷ slice curves ∷ slice functions ∷ vptr b-groups o-groups ∷ vint w8 address ∷ vint w8 multicast ∷ vint w64 busy ∷ slice values ∷ slice blocks ∷ slice request ∷ slice reply ∷ []) Post)
+    walk : Room M3.the-row (length (now variables)) → Room u32 (length (now curves)) → Room u8 (length (now functions)) → Room u8 (length (now values)) → Room u8 (length (now blocks)) → Room u8 (length (now request)) → Room u8 (length (now reply)) → ent 𝓤 (onEntry 𝓤 H A signature (bound .0 .0) (bound .0 .1) a at) (WpFn 𝓤 H C Λ (function kt kc) (slice variables ∷ slice curves ∷ slice functions ∷ vptr b-groups o-groups ∷ vint w8 own ∷ vint w8 multicast ∷ vint w64 busy ∷ slice values ∷ slice blocks ∷ slice request ∷ slice reply ∷ []) Post)
     walk g-variables g-curves g-functions g-values g-blocks g-request g-reply =
-        qed W ((‵ (flft κ-variables q-variables) ⊛ ‵ (flft κ-curves q-curves) ⊛ ‵ (flft κ-functions q-functions) ⊛ ‵ (flft κ-groups q-groups) ⊛ ‵ (flft κ-values q-values) ⊛ ‵ (flft κ-blocks q-blocks) ⊛ ‵ (flft κ-request q-request) ⊛ ‵ (flft κ-reply q-reply) ⊛ ‵ ftrue) ∷ (‵ O-variables ⊛ ‵ O-curves ⊛ ‵ O-functions ⊛ ‵ (MutRef (named 3) κ-groups M4.the-row .own x-groups (vptr b-groups o-groups ∷ [])) ⊛ ‵ (u8 .own address (vint w8 address ∷ [])) ⊛ ‵ (u8 .own multicast (vint w8 multicast ∷ [])) ⊛ ‵ (u64 .own busy (vint w64 busy ∷ [])) ⊛ ‵ O-values ⊛ ‵ O-blocks ⊛ ‵ O-request ⊛ ‵ O-reply ⊛ ‵ ftrue) ∷ []) ∵
-        split ! $ move ! (1 ∷ []) $ split ! $ move ! (1 ∷ []) $ split ! $ move ! (1 ∷ []) $ split ! $ move ! (1 ∷ []) $ split ! $ move ! (1 ∷ []) $ split ! $ move ! (1 ∷ []) $ split ! $ move ! (1 ∷ []) $ split ! $ move ! (9 ∷ []) $ split ! $ move ! (1 ∷ []) $ split ! $ move ! (1 ∷ []) $ split ! $ move ! (1 ∷ []) $ split ! $ move ! (1 ∷ []) $ split ! $ move ! (1 ∷ []) $ split ! $ move ! (1 ∷ []) $ split ! $ move ! (1 ∷ []) $ split ! $ move ! (1 ∷ []) $ split ! $ move ! (1 ∷ []) $ split ! $ move ! (1 ∷ []) $ split ! $ move ! (8 ∷ []) $ fsplit3 ! $ drop ! $ keep ! (12 ∷ 11 ∷ 10 ∷ 0 ∷ 1 ∷ 6 ∷ 5 ∷ 4 ∷ 2 ∷ 21 ∷ 20 ∷ 19 ∷ 18 ∷ 17 ∷ 16 ∷ 15 ∷ 13 ∷ []) $ enter ! C Λ (function kt kc) (slice variables ∷ slice curves ∷ slice functions ∷ vptr b-groups o-groups ∷ vint w8 address ∷ vint w8 multicast ∷ vint w64 busy ∷ slice values ∷ slice blocks ∷ slice request ∷ slice reply ∷ []) _ $
+        qed W ((‵ (flft κ-variables q-variables) ⊛ ‵ (flft κ-curves q-curves) ⊛ ‵ (flft κ-functions q-functions) ⊛ ‵ (flft κ-groups q-groups) ⊛ ‵ (flft κ-values q-values) ⊛ ‵ (flft κ-blocks q-blocks) ⊛ ‵ (flft κ-request q-request) ⊛ ‵ (flft κ-reply q-reply) ⊛ ‵ ftrue) ∷ (‵ O-variables ⊛ ‵ O-curves ⊛ ‵ O-functions ⊛ ‵ (MutRef (named 3) κ-groups M4.the-row .own x-groups (vptr b-groups o-groups ∷ [])) ⊛ ‵ (u8 .own own (vint w8 own ∷ [])) ⊛ ‵ (u8 .own multicast (vint w8 multicast ∷ [])) ⊛ ‵ (u64 .own busy (vint w64 busy ∷ [])) ⊛ ‵ O-values ⊛ ‵ O-blocks ⊛ ‵ O-request ⊛ ‵ O-reply ⊛ ‵ ftrue) ∷ []) ∵
+        split ! $ move ! (1 ∷ []) $ split ! $ move ! (1 ∷ []) $ split ! $ move ! (1 ∷ []) $ split ! $ move ! (1 ∷ []) $ split ! $ move ! (1 ∷ []) $ split ! $ move ! (1 ∷ []) $ split ! $ move ! (1 ∷ []) $ split ! $ move ! (9 ∷ []) $ split ! $ move ! (1 ∷ []) $ split ! $ move ! (1 ∷ []) $ split ! $ move ! (1 ∷ []) $ split ! $ move ! (1 ∷ []) $ split ! $ move ! (1 ∷ []) $ split ! $ move ! (1 ∷ []) $ split ! $ move ! (1 ∷ []) $ split ! $ move ! (1 ∷ []) $ split ! $ move ! (1 ∷ []) $ split ! $ move ! (1 ∷ []) $ split ! $ move ! (8 ∷ []) $ fsplit3 ! $ drop ! $ keep ! (12 ∷ 11 ∷ 10 ∷ 0 ∷ 1 ∷ 6 ∷ 5 ∷ 4 ∷ 2 ∷ 21 ∷ 20 ∷ 19 ∷ 18 ∷ 17 ∷ 16 ∷ 15 ∷ 13 ∷ []) $ enter ! C Λ (function kt kc) (slice variables ∷ slice curves ∷ slice functions ∷ vptr b-groups o-groups ∷ vint w8 own ∷ vint w8 multicast ∷ vint w64 busy ∷ slice values ∷ slice blocks ∷ slice request ∷ slice reply ∷ []) _ $
         alloc1 ! (λ l-0. alloc1 ! (λ l-1. alloc1 ! (λ l-2. alloc1 ! (λ l-3. alloc1 ! (λ l-4. alloc1 ! (λ l-5. alloc1 ! (λ l-6. alloc1 ! (λ l-7. alloc1 ! (λ l-8. alloc1 ! (λ l-9. alloc1 ! (λ l-10. alloc1 ! (λ l-11. alloc1 ! (λ l-12. alloc1 ! (λ l-13. alloc1 ! (λ l-14. alloc1 ! (λ l-15. alloc1 ! (λ l-16. alloc1 ! (λ l-17. alloc1 ! (λ l-18. alloc1 ! (λ l-19. alloc1 ! (λ l-20. alloc0 ! $ move ! (down 21) $ params1 ! $
-        pass1 ! (init ! 2 refl (tt, (tt, (record { fits = g-variables .0 }, tt)))) $ pass1 ! (init ! 4 refl (tt, (tt, (record { fits = g-curves .0 }, tt)))) $ pass1 ! (init ! 6 refl (tt, (tt, (record { fits = g-functions .0 }, tt)))) $ pass1 ! (init ! 8 refl (tt, tt)) $ pass1 ! (init ! 10 refl (tt, record { fits = is-address .1 })) $ pass1 ! (init ! 12 refl (tt, record { fits = is-multicast .1 })) $ pass1 ! (init ! 14 refl (tt, record { fits = is-busy .1 })) $ pass1 ! (init ! 16 refl (tt, (tt, (record { fits = g-values .0 }, tt)))) $ pass1 ! (init ! 18 refl (tt, (tt, (record { fits = g-blocks .0 }, tt)))) $ pass1 ! (init ! 20 refl (tt, (tt, (record { fits = g-request .0 }, tt)))) $ pass1 ! (init ! 22 refl (tt, (tt, (record { fits = g-reply .0 }, tt)))) $ pass0 ! $
+        pass1 ! (init ! 2 refl (tt, (tt, (record { fits = g-variables .0 }, tt)))) $ pass1 ! (init ! 4 refl (tt, (tt, (record { fits = g-curves .0 }, tt)))) $ pass1 ! (init ! 6 refl (tt, (tt, (record { fits = g-functions .0 }, tt)))) $ pass1 ! (init ! 8 refl (tt, tt)) $ pass1 ! (init ! 10 refl (tt, record { fits = is-own .1 })) $ pass1 ! (init ! 12 refl (tt, record { fits = is-multicast .1 })) $ pass1 ! (init ! 14 refl (tt, record { fits = is-busy .1 })) $ pass1 ! (init ! 16 refl (tt, (tt, (record { fits = g-values .0 }, tt)))) $ pass1 ! (init ! 18 refl (tt, (tt, (record { fits = g-blocks .0 }, tt)))) $ pass1 ! (init ! 20 refl (tt, (tt, (record { fits = g-request .0 }, tt)))) $ pass1 ! (init ! 22 refl (tt, (tt, (record { fits = g-reply .0 }, tt)))) $ pass0 ! $
         -- [the locals; O-variables; O-curves; O-functions; obs-groups; bor-groups; O-values; O-blocks; O-request; O-reply; t-variables; t-curves; t-functions; t-groups; t-values; t-blocks; t-request; t-reply]
         move ! (42 ∷ 51 ∷ []) $ group ! 2 $ use1 W (raw (TableOf 𝓤 H A at-mem run .pre to-table) ⊛ ‵ O-variables) goes-table $ split ! $
         calls-at ! fm (TableOf 𝓤 H A at-mem run) known-table to-table (and-then ! (load ! (from ! (stop !)) (look ! 4 refl)) (no-more !)) (λ u.

@@ -27,7 +27,7 @@ use Rattle.judging.specs.Judging.{lentLayout}
 use Rattle.changes.specs.Changes.{regrouped}
 use Rattle.changes.specs.declared.Regroup.{Regroup}
 use Rattle.changes.specs.declared.Regroup.the-variants.{Keep, Make}
-use Rattle.node.specs.Promise.{tableWith, packetLeft, packetLeftOf, frontOf, Fits, BoardTold, BoardReady, EndsAs, ReceivedAs, CarriedAs}
+use Rattle.node.specs.Promise.{tableWith, packetLeft, packetLeftOf, frontOf, Fits, BoardChecked, BoardReady, EndsAs, ReceivedAs, CarriedAs}
 use Rattle.node.proofs.Receiving.{stopped}
 
 -- any board ----------------------------------------------------------------------------------------------------------------------
@@ -38,10 +38,10 @@ module _ (r : Records) (cs fs : List ℕ) (g : Groups) (vs bs : List ℕ) (a : P
   abbrev X : Lent
   X = lent vs bs (groupsOf g)
 
-  pub carried-unusable : (c : Board) → BoardTold r cs fs g X c → c .usable ≡ false → o ≡ O.Refused BoardUnusable → q ≡ Keep → CarriedAs T a busy p X b o q b X
+  pub carried-unusable : (c : Board) → BoardChecked r cs fs g X c → c .usable ≡ false → o ≡ O.Refused BoardUnusable → q ≡ Keep → CarriedAs T a busy p X b o q b X
   unfolding packet
-  carried-unusable c told u e f = record {
-    ends = stopped (layout T) X b _ BoardUnusable o q (faults-some T (held (layout T) X) _ _ _ (sym (board-usable T _ c (told .board)) ∙ u) refl) e f;
+  carried-unusable c checked u e f = record {
+    ends = stopped (layout T) X b _ BoardUnusable o q (faults-some T (held (layout T) X) _ _ _ (sym (board-usable T _ c (checked .board)) ∙ u) refl) e f;
   }
 
   abbrev made : List ℕ

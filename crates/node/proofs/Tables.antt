@@ -21,7 +21,7 @@ use Rattle.records.proofs.Whole.{layout-lent, board-usable, board-writable}
 use Rattle.records.proofs.Sound as R
 use Rattle.variables.proofs.Listing.{sizes-usable}
 use Rattle.judging.specs.Judging.{lentLayout, SoundBoard}
-use Rattle.node.specs.Promise.{tableWith, frontOf, BoardTold, BoardReady}
+use Rattle.node.specs.Promise.{tableWith, frontOf, BoardChecked, BoardReady}
 
 -- the table of the groups that it holds is the table, whatever its count
 module _ (g : Groups) (five : length (g .sets) ≡ 5) where
@@ -74,12 +74,12 @@ table-without g x five e =
     λ i. record { count = c i; sets = (e .1 ∙ sym (take-all 5 (g .sets) (omega arith))) i }
 
 -- a usable board ---------------------------------------------------------------------------------------------------------------
-module _ (r : Records) (cs fs : List ℕ) (g : Groups) (vs bs : List ℕ) (c : Board) (told : BoardTold r cs fs g (lent vs bs (groupsOf g)) c) (u : c .usable ≡ true) where
+module _ (r : Records) (cs fs : List ℕ) (g : Groups) (vs bs : List ℕ) (c : Board) (checked : BoardChecked r cs fs g (lent vs bs (groupsOf g)) c) (u : c .usable ≡ true) where
   abbrev T : Table
   T = tableOf r cs fs
 
   is-usable : usable T (held (layout T) (lent vs bs (groupsOf g))) ≡ true
-  is-usable = sym (board-usable T _ c (told .board)) ∙ u
+  is-usable = sym (board-usable T _ c (checked .board)) ∙ u
 
   sound : R.Sound T (lent vs bs (groupsOf g))
   sound = R.usable-sound T (lent vs bs (groupsOf g)) is-usable
@@ -94,10 +94,10 @@ module _ (r : Records) (cs fs : List ℕ) (g : Groups) (vs bs : List ℕ) (c : B
   front n xs = let e : n - 0 ≡ n = omega arith in ap (λ k. take k xs) e
 
   sizes-are : sizesOf (recordsOf r) ≡ frontOf (r .count) (r .sizes)
-  sizes-are = sizes-lent r (omega (arith, few-records, told .sizes)) ∙ sym (front (r .count) (r .sizes))
+  sizes-are = sizes-lent r (omega (arith, few-records, checked .sizes)) ∙ sym (front (r .count) (r .sizes))
 
   groups-same : frontOf (g .count) (g .sets) ≡ groupsOf g
-  groups-same = front (g .count) (g .sets) ∙ sym (groups-lent g (omega (arith, few-groups, told .sets)))
+  groups-same = front (g .count) (g .sets) ∙ sym (groups-lent g (omega (arith, few-groups, checked .sets)))
 
   sound-board : SoundBoard (lentLayout (frontOf (r .count) (r .sizes)) (c .writable) cs fs) (lent vs bs (frontOf (g .count) (g .sets)))
   sound-board = rw groups-same (record {
@@ -113,17 +113,17 @@ module _ (r : Records) (cs fs : List ℕ) (g : Groups) (vs bs : List ℕ) (c : B
   })
     where
       sizes-count : length (sizesOf (recordsOf r)) ≡ r .count
-      sizes-count = ap length sizes-are ∙ ap length (front (r .count) (r .sizes)) ∙ simp length-take (omega (arith, few-records, told .sizes))
+      sizes-count = ap length sizes-are ∙ ap length (front (r .count) (r .sizes)) ∙ simp length-take (omega (arith, few-records, checked .sizes))
 
   -- all that the work of a packet leans on
   pub board-ready : BoardReady r cs fs g vs bs c
   board-ready = record {
     usable-is = is-usable;
-    sizes-inside = omega (arith, few-records, told .sizes);
-    sets-inside = omega (arith, few-groups, told .sets);
+    sizes-inside = omega (arith, few-records, checked .sizes);
+    sets-inside = omega (arith, few-groups, checked .sets);
     layout-is =
         ap (λ ns. lentLayout ns (c .writable) cs fs) (front (r .count) (r .sizes))
-        ∙ layout-lent r cs fs (c .writable) (omega (arith, few-records, told .sizes)) (board-writable T _ c (told .board) u);
+        ∙ layout-lent r cs fs (c .writable) (omega (arith, few-records, checked .sizes)) (board-writable T _ c (checked .board) u);
     groups-are = groups-same;
     sound = sound-board;
   }

@@ -18,7 +18,7 @@ ghost use Rattle.judging.specs.Judging.{lentLayout, SoundBoard};
 ghost use Rattle.changes.specs.Changes.{regrouped};
 ghost use Rattle.changes.specs.declared.Regroup.the-variants.{Keep};
 ghost use Rattle.wire.specs.Opening.{placed};
-ghost use Rattle.node.specs.Promise.{tableWith, packetLeft, packetLeftOf, unopenedOf, Closable, Closed, Fits, BoardTold, BoardReady, ReceivedAs, CarriedAs};
+ghost use Rattle.node.specs.Promise.{tableWith, packetLeft, packetLeftOf, unopenedOf, Closable, Closed, Fits, BoardChecked, BoardReady, ReceivedAs, CarriedAs};
 
 // How a call ended, and the group table that it leaves.
 pub struct Done {
@@ -135,8 +135,8 @@ fn receive(
     Received { outcome, regroup }
 }
 
-// Refusal 1, of records by columns. That the columns are 64 long and the places of a group table 5 is told with it, for who lends their fronts.
-fn look(
+// Refusal 1, of records by columns. That the columns are 64 long and the places of a group table 5 is promised with it, for who lends their fronts.
+fn check_board(
     records: Records,
     curves: &[u32],
     functions: &[u8],
@@ -145,14 +145,14 @@ fn look(
     blocks: &[u8],
 ) -> Board
     ensures { λ r. let x = lent (now (values .entry)) (now (blocks .entry)) (groupsOf groups) in
-        ⌜ BoardTold records (now (curves .entry)) (now (functions .entry)) groups x r ⌝ }
+        ⌜ BoardChecked records (now (curves .entry)) (now (functions .entry)) groups x r ⌝ }
 {
-    let types = records.writable;
+    let writable = records.writable;
     let sizes = records.sizes;
     let kinds = records.kinds;
     records::usable_board(
         records.count,
-        &types,
+        &writable,
         &sizes,
         &kinds,
         curves,
@@ -225,7 +225,7 @@ fn carry(
         let b = now (reply .entry) in
         ⌜ CarriedAs t (placed own multicast) busy (now (request .entry)) x b (r .outcome) (r .regroup) (now (reply .exit)) y ⌝ }
 {
-    let board = look(records, curves, functions, groups, values, blocks);
+    let board = check_board(records, curves, functions, groups, values, blocks);
     if board.usable {
         return lend(
             records,
