@@ -21,7 +21,10 @@ use Rattle.records.proofs.Whole.{layout-lent, board-usable, board-writable}
 use Rattle.records.proofs.Sound as R
 use Rattle.variables.proofs.Listing.{sizes-usable}
 use Rattle.judging.specs.Judging.{lentLayout, SoundBoard}
-use Rattle.node.specs.Promise.{tableWith, frontOf, BoardChecked, BoardReady}
+use Rattle.changes.specs.Changes.{regrouped}
+use Rattle.changes.specs.declared.Regroup.{Regroup}
+use Rattle.changes.specs.declared.Regroup.the-variants.{Keep, Make, Remove}
+use Rattle.node.specs.Promise.{tableWith, Fits, frontOf, BoardChecked, BoardReady}
 
 -- the table of the groups that it holds is the table, whatever its count
 module _ (g : Groups) (five : length (g .sets) ≡ 5) where
@@ -55,7 +58,7 @@ module _ (g : Groups) (five : length (g .sets) ≡ 5) where
       λ i. record { count = group-count g i; sets = sym s i }
 
 -- .. with one group more, and with none
-pub table-with : (g x : Groups) (m : ℕ) → length (g .sets) ≡ 5 → g .count < 5 → (groupsOf x ≡ groupsOf g ++ m ∷ []) × (x .sets ≡ set (g .sets) (g .count) m)
+table-with : (g x : Groups) (m : ℕ) → length (g .sets) ≡ 5 → g .count < 5 → (groupsOf x ≡ groupsOf g ++ m ∷ []) × (x .sets ≡ set (g .sets) (g .count) m)
     → x ≡ tableWith (groupsOf g ++ m ∷ []) g
 unfolding put
 table-with g x m five h e =
@@ -68,10 +71,26 @@ table-with g x m five h e =
     let l : length (x .sets) ≤ 5 = rw (e .1, length-set (g .sets) n m) (omega arith) in
     λ i. record { count = c i; sets = (sym (take-all 5 (x .sets) l) ∙ ap (take 5) (sym p)) i }
 
-pub table-without : (g x : Groups) → length (g .sets) ≡ 5 → (groupsOf x ≡ []) × (x .sets ≡ g .sets) → x ≡ tableWith [] g
+table-without : (g x : Groups) → length (g .sets) ≡ 5 → (groupsOf x ≡ []) × (x .sets ≡ g .sets) → x ≡ tableWith [] g
 table-without g x five e =
     let c : x .count ≡ 0 = group-count x ∙ ap length (e .0) in
     λ i. record { count = c i; sets = (e .1 ∙ sym (take-all 5 (g .sets) (omega arith))) i }
+
+-- so the table after a message, by what becomes of the made groups
+pub group-room : (r : Regroup) (g : Groups) (m n : ℕ) → Fits r g → r ≡ Make m → n ≡ g .count → n < 5
+group-room r g m n h e f = rw f (h .room m e)
+
+module _ (r : Regroup) (g : Groups) (five : length (g .sets) ≡ 5) where
+  pub regroup-keep : r ≡ Keep → g ≡ tableWith (regrouped r (groupsOf g)) g
+  regroup-keep e = rw e (table-same g five)
+
+  module _ (x : Groups) where
+    pub regroup-make : (m : ℕ) → Fits r g → r ≡ Make m → groupsOf x ≡ groupsOf g ++ m ∷ [] → x .sets ≡ set (g .sets) (g .count) m
+        → x ≡ tableWith (regrouped r (groupsOf g)) g
+    regroup-make m h e p q = rw e (table-with g x m five (h .room m e) (p, q))
+
+    pub regroup-remove : r ≡ Remove → groupsOf x ≡ [] → x .sets ≡ g .sets → x ≡ tableWith (regrouped r (groupsOf g)) g
+    regroup-remove e p q = rw e (table-without g x five (p, q))
 
 -- a usable board ---------------------------------------------------------------------------------------------------------------
 module _ (r : Records) (cs fs : List ℕ) (g : Groups) (vs bs : List ℕ) (c : Board) (checked : BoardChecked r cs fs g (lent vs bs (groupsOf g)) c) (u : c .usable ≡ true) where
