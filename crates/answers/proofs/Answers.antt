@@ -13,7 +13,7 @@ use Rattle.bsmp.specs.declared.Function.{Function}
 use Rattle.bsmp.specs.declared.Command.{Command}
 use Rattle.bsmp.specs.declared.Command.the-variants.{ShowGroup, ReadVariable, ReadGroup, WriteRead, ReadBlock, RunFunction}
 use Rattle.lists.proofs.Put.{put-nil}
-use Rattle.parts.specs.Parts.{layoutOf, Passed, Answered}
+use Rattle.parts.specs.Parts.{layoutOf, Passed, PayloadAt}
 use Rattle.variables.proofs.Passes as variables
 use Rattle.groups.specs.Promises.{GroupKnown}
 use Rattle.groups.proofs.Pass as groups
@@ -62,7 +62,7 @@ module _ (l : Layout) (gs p : List ℕ) (k : Command) (state : State) (r : List 
   abbrev says : Command → Said
   says x = spoken (line l gs p x .answer) state
 
-  pub answer-told : (v : List ℕ) (code n : ℕ) → Answered r at v n r′ → s ≡ Reply code n → says c ≡ replies code v → Spoke true (says k) r at s r′
+  pub answer-told : (v : List ℕ) (code n : ℕ) → PayloadAt r at v n r′ → s ≡ Reply code n → says c ≡ replies code v → Spoke true (says k) r at s r′
   answer-told v code n h q f =
       rw (e, f) (record { said = q ∙ ap (Reply code) (h .count); written = h .written; short = rw (h .count) at (h .short) })
 

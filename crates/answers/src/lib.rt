@@ -7,7 +7,7 @@ ghost use mathlib.Core.List.{[], _∷_};
 ghost use Prim.Native.Nat.{_+_, _≤_, _<_};
 ghost use lib.ListN.{length, drop};
 ghost use Rattle.bsmp.specs.Message.{functionAt, line, runs, spoken};
-ghost use Rattle.parts.specs.Parts.{Passed, Answered};
+ghost use Rattle.parts.specs.Parts.{Passed, PayloadAt};
 ghost use Rattle.bsmp.specs.Store.{held};
 ghost use Rattle.records.specs.Lending.{lent};
 ghost use Rattle.judging.specs.Judging.{lentLayout, SoundBoard};
@@ -37,7 +37,7 @@ impl Spoken {
 
 fn tell_version(reply: &mut [u8], at: usize) -> usize
     requires { ⌜ at + 4099 ≤ length (now reply) ⌝ }
-    ensures { λ r. ⌜ Answered (now (reply .entry)) at (2 ∷ 20 ∷ 0 ∷ []) r (now (reply .exit)) ⌝ }
+    ensures { λ r. ⌜ PayloadAt (now (reply .entry)) at (2 ∷ 20 ∷ 0 ∷ []) r (now (reply .exit)) ⌝ }
 {
     reply[at] = 2;
     reply[at + 1] = 20;

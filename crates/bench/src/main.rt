@@ -61,7 +61,7 @@ fn one(
         reply,
     );
     let o = d.outcome;
-    let a = lines::line(number, o, packet, reply, out);
+    let a = bench_line::put_line(number, o, packet, reply, out);
     let g = d.groups;
     Turned {
         size: text::put_byte(out, a, b'\n'),

@@ -10,7 +10,7 @@ use lib.ListN.{length, drop, set, getD, length-append}
 use borrow.Author.Tests.{eqb-true, eqb-false}
 use Rattle.bsmp.specs.Base.{some, first, Test, join}
 use Rattle.bsmp.specs.Board.{variable, Table, Layout, layout, State, valueOf, isSame, usable, faults}
-use Rattle.bsmp.specs.Message.{Change, nothing, edit, fill, regroup, Answer, say, tell, show, call, Line, changed, edited, filled, after, told, replies, spoken, said, stateAfter, carried, handled, asked, judge}
+use Rattle.bsmp.specs.Message.{Change, nothing, edit, fill, regroup, Answer, say, tell, show, call, Line, changed, edited, filled, after, valuesOf, replies, spoken, said, stateAfter, carried, handled, asked, judge}
 use Rattle.bsmp.specs.Packet.{Place, Ending, reply, silence, Result, frame, ends, ended, served, refuse, isOwn, destination, message}
 use Rattle.bsmp.specs.Packet.{placeTests, packetTests, packet, Ran, ranSays, resultTests, functionResult, storeTests, boardStore}
 use Rattle.bsmp.specs.Apart.{Alike, Event, arrives, returns, stores, happen, tells, readBy, readsIn, reads, answerOf, Apart, endings, later, unread}
@@ -81,23 +81,23 @@ unfolding frame
 frame-payload c p q n e = parts p q _ _ n (ap (drop 4) e) .0
 
 module _ (v : VariableNumber) (s₁ s₂ : State) (h : Alike v s₁ s₂) where
-  unread-values : (is : List VariableNumber) → some (isSame v) is ≡ false → told (s₁ .values) is ≡ told (s₂ .values) is
-  unfolding told
+  unread-values : (is : List VariableNumber) → some (isSame v) is ≡ false → valuesOf (s₁ .values) is ≡ valuesOf (s₂ .values) is
+  unfolding valuesOf
   unread-values [] e = refl
   unread-values (i ∷ is) e =
       let o : (isSame v i ≡ false) × (some (isSame v) is ≡ false) = or-false _ _ e in
       ap₂ _++_ (h .others i (other-number i v (o .0))) (unread-values is (o .1))
 
-  told-length : (is : List VariableNumber) → length (told (s₁ .values) is) ≡ length (told (s₂ .values) is)
-  unfolding told
+  told-length : (is : List VariableNumber) → length (valuesOf (s₁ .values) is) ≡ length (valuesOf (s₂ .values) is)
+  unfolding valuesOf
   told-length [] = refl
   told-length (i ∷ is) = simp length-append (ap₂ _+_ (length-at (s₁ .values) (s₂ .values) (h .lengths) (i .0)) (told-length is))
 
-  read-values : (is : List VariableNumber) → some (isSame v) is ≡ true → told (s₁ .values) is ≡ told (s₂ .values) is → valueOf s₁ v ≡ valueOf s₂ v
-  unfolding told
+  read-values : (is : List VariableNumber) → some (isSame v) is ≡ true → valuesOf (s₁ .values) is ≡ valuesOf (s₂ .values) is → valueOf s₁ v ≡ valueOf s₂ v
+  unfolding valuesOf
   read-values [] e q = absurd (false≢true e)
   read-values (i ∷ is) e q =
-      let b : (valueOf s₁ i ≡ valueOf s₂ i) × (told (s₁ .values) is ≡ told (s₂ .values) is) =
+      let b : (valueOf s₁ i ≡ valueOf s₂ i) × (valuesOf (s₁ .values) is ≡ valuesOf (s₂ .values) is) =
       parts _ _ _ _ (length-at (s₁ .values) (s₂ .values) (h .lengths) (i .0)) q in
       ⊎-elim (λ r. subst (λ k. valueOf s₁ k ≡ valueOf s₂ k) (sym (same-number i v r)) (b .0)) (λ r. read-values is r (b .1)) (or-true _ _ e)
 
@@ -115,7 +115,7 @@ module _ (v : VariableNumber) (s₁ s₂ : State) (h : Alike v s₁ s₂) where
 
   spoken-told : (due : Bool) (an : Answer) → (due && tells v an) ≡ true
       → (answerOf (ends due (spoken an s₁)) ≡ answerOf (ends due (spoken an s₂))) ↔ (valueOf s₁ v ≡ valueOf s₂ v)
-  unfolding ends spoken told
+  unfolding ends spoken valuesOf
   spoken-told due (say c p) e = absurd (and-false due e)
   spoken-told true (tell c is) e = (
     λ q. read-values is e (frame-payload c _ _ (told-length is) q),
@@ -128,15 +128,15 @@ module _ (v : VariableNumber) (s₁ s₂ : State) (h : Alike v s₁ s₂) where
 -- packets, results and stores ------------------------------------------------------------------------------------------------
 quiet : (v : VariableNumber) (e : Ending) (s₁ s₂ : State) → Alike v s₁ s₂
     → Apart v (record { ending = e; state = s₁ }) (record { ending = e; state = s₂ }) false
-quiet v e s₁ s₂ h = record { alike = h; same = λ r. refl; told = λ r. absurd (false≢true r) }
+quiet v e s₁ s₂ h = record { alike = h; same = λ r. refl; shows = λ r. absurd (false≢true r) }
 
 carried-apart : (v : VariableNumber) (due : Bool) (l : Line) (c : Check) (s₁ s₂ : State) → Alike v s₁ s₂
     → Apart v (ended due (carried l c s₁)) (ended due (carried l c s₂)) (due && readBy v l c)
 unfolding carried said stateAfter
-carried-apart v due l (Fail x) s₁ s₂ h = record { alike = h; same = λ e. refl; told = λ e. absurd (and-false due e) }
+carried-apart v due l (Fail x) s₁ s₂ h = record { alike = h; same = λ e. refl; shows = λ e. absurd (and-false due e) }
 carried-apart v due l Pass s₁ s₂ h =
     let k : Alike v (after (l .change) s₁) (after (l .change) s₂) = after-alike v (l .change) s₁ s₂ h in
-    record { alike = k; same = spoken-same v _ _ k due (l .answer); told = spoken-told v _ _ k due (l .answer) }
+    record { alike = k; same = spoken-same v _ _ k due (l .answer); shows = spoken-told v _ _ k due (l .answer) }
 
 served-apart : (l : Layout) (v : VariableNumber) (busy : ℕ) (due : Bool) (m : List ℕ) (s₁ s₂ : State) → Alike v s₁ s₂
     → Apart v (served l busy due m s₁) (served l busy due m s₂) (due && readsIn l (s₁ .groups) busy m v)
@@ -230,4 +230,4 @@ module _ (t : Table) (a : Place) (v : VariableNumber) where
       ↔ (valueOf (happen t a e (later t a es s₁) .state) v ≡ valueOf (happen t a e (later t a es s₂) .state) v))
   apart es e s₁ s₂ h u r =
       let b : (endings t a es s₁ ≡ endings t a es s₂) × Alike v (later t a es s₁) (later t a es s₂) = before es s₁ s₂ h u in
-      (b .0, b .1, step t a v e _ _ (b .1) .told r)
+      (b .0, b .1, step t a v e _ _ (b .1) .shows r)

@@ -136,7 +136,7 @@ module _ (t : Table) (a : Place) (v : VariableNumber) (x₁ x₂ : Lent)
   lent-apart c₁ c₂ e k r =
       let w : Told (happen t a (eventOf c₁) (held (layout t) y₁)) (happen t a (eventOf c₂) (held (layout t) y₂)) v =
       subst (λ ev. Told (happen t a (eventOf c₁) (held (layout t) y₁)) (happen t a ev (held (layout t) y₂)) v) e
-      (step t a v (eventOf c₁) _ _ (states .0) .told r) in
+      (step t a v (eventOf c₁) _ _ (states .0) .shows r) in
       let b₁ = value-after t a v c₁ y₁ after-usable₁ k in
       let b₂ = value-after t a v c₂ y₂ after-usable₂ k in
       let a₁ = answer-in (happen t a (eventOf c₁) (held (layout t) y₁) .ending) (bufferOf c₁) in

@@ -11,7 +11,7 @@ use Rattle.bsmp.specs.Base.{all, every, sum, join, upFrom, within, byteA
 use Rattle.bsmp.specs.Codes.{errorCode, commandOf}
 use Rattle.bsmp.specs.Board.{variable, group, curve, Table, Layout, layout, State, valueOf, blockOf, inGroup, sizesOf, sizeOf, variables, members, blankCurve, blankFunction, curveOf, blockPlace, functionOf}
 use Rattle.bsmp.specs.Board.{variableRules, usableCurve, curveRules, usable, faults, usableVariables, usableCurves, usableFunctions, usableGroups}
-use Rattle.bsmp.specs.Message.{Answer, say, tell, show, call, variableList, groupList, curveRecord, curveList, functionList, Line, testsOf, line, messageOf, asked, after, told, replies, spoken, stateAfter, said, carried, handled}
+use Rattle.bsmp.specs.Message.{Answer, say, tell, show, call, variableList, groupList, curveRecord, curveList, functionList, Line, testsOf, line, messageOf, asked, after, valuesOf, replies, spoken, stateAfter, said, carried, handled}
 use Rattle.bsmp.specs.Packet.{Place, Ending, reply, silence, run, refuse, checksum, packed, frame, ends, placeTests, packetTests, served, packet, Ran, gave, failed, badOutput, ranSays, resultTests, functionResult, storeTests, boardStore, message}
 use Rattle.bsmp.specs.Apart.{Event, arrives, returns, stores, happen}
 use Rattle.bsmp.specs.declared.VariableNumber.{VariableNumber}
@@ -44,10 +44,10 @@ unfolding members
 group-bytes l gs g = rw (all-sizes l) at (only-sum (sizeOf l) (inGroup (l .writable) gs g) (variables l))
 
 -- the bytes told of some variables
-pub told-bytes : (t : Table) (s : State) → Usable t s → (is : List VariableNumber) → length (told (s .values) is) ≡ sum (map (sizeOf (layout t)) is)
-unfolding told sum
+pub told-bytes : (t : Table) (s : State) → Usable t s → (is : List VariableNumber) → length (valuesOf (s .values) is) ≡ sum (map (sizeOf (layout t)) is)
+unfolding valuesOf sum
 told-bytes t s u [] = refl
-told-bytes t s u (i ∷ is) = length-append (valueOf s i) (told (s .values) is) ∙ ap₂ _+_ (value-length t s u i) (told-bytes t s u is)
+told-bytes t s u (i ∷ is) = length-append (valueOf s i) (valuesOf (s .values) is) ∙ ap₂ _+_ (value-length t s u i) (told-bytes t s u is)
 
 -- 01's limits, as numbers ----------------------------------------------------------------------------------------------------
 pub record Limits (t : Table) (s : State) : Type 0 where
@@ -174,7 +174,7 @@ ends-well false c p h = tt
 spoken-well : (t : Table) (s : State) (due : Bool) (an : Answer) → Usable t s → Small t s an → WellSent (ends due (spoken an s))
 unfolding spoken ends
 spoken-well t s due (say c p) u h = ends-well due c p h
-spoken-well t s due (tell c is) u h = ends-well due c (told (s .values) is) (rw (told-bytes t s u is) h)
+spoken-well t s due (tell c is) u h = ends-well due c (valuesOf (s .values) is) (rw (told-bytes t s u is) h)
 spoken-well t s due (show c front k) u h = ends-well due c (front ++ blockOf s k) (rw (length-append front (blockOf s k)) h)
 spoken-well t s due (call f i) u h = tt
 

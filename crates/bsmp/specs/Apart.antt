@@ -70,7 +70,7 @@ answerOf (Ending.refused n) = []
 pub record Apart (v : VariableNumber) (r₁ r₂ : Result) (rd : Bool) : Type 0 where
   pub alike : Alike v (r₁ .state) (r₂ .state)
   pub same : rd ≡ false → r₁ .ending ≡ r₂ .ending
-  pub told : rd ≡ true → (answerOf (r₁ .ending) ≡ answerOf (r₂ .ending)) ↔ (valueOf (r₁ .state) v ≡ valueOf (r₂ .state) v)
+  pub shows : rd ≡ true → (answerOf (r₁ .ending) ≡ answerOf (r₂ .ending)) ↔ (valueOf (r₁ .state) v ≡ valueOf (r₂ .state) v)
 
 -- a run of events: how each ends, the state after all, and that none of them reads v
 abbrev pub endings : Table → Place → List Event → State → List Ending

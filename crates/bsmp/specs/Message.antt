@@ -289,8 +289,8 @@ after (fill k d) s = withBlocks s (set (s .blocks) k (filled d (blockOf s k)))
 after (regroup gs) s = withGroups s gs
 
 -- the values of these variables, one after another
-unfoldable pub told : List (List ℕ) → List VariableNumber → List ℕ
-told vs is = join (map (λ i. getD vs (i .0) []) is)
+unfoldable pub valuesOf : List (List ℕ) → List VariableNumber → List ℕ
+valuesOf vs is = join (map (λ i. getD vs (i .0) []) is)
 
 -- what is said to a message: a reply of this code and payload, or that a function is to be run on this input
 pub data Said : Type 0 where
@@ -299,7 +299,7 @@ pub data Said : Type 0 where
 
 unfoldable pub spoken : Answer → State → Said
 spoken (say c p) s = replies c p
-spoken (tell c is) s = replies c (told (s .values) is)
+spoken (tell c is) s = replies c (valuesOf (s .values) is)
 spoken (show c front k) s = replies c (front ++ blockOf s k)
 spoken (call f i) s = runs f i
 

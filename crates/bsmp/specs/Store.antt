@@ -50,8 +50,5 @@ pub record Left : Type 0 where
   pub buffer : List ℕ
   pub holds : State
 
-abbrev pub left : Outcome → List ℕ → State → Left
-left o b s = record { outcome = o; buffer = b; holds = s }
-
 abbrev pub leaves : Result → (buffer : List ℕ) → Left
-leaves r b = left (outcomeOf (r .ending)) (shown (r .ending) b) (r .state)
+leaves r b = record { outcome = outcomeOf (r .ending); buffer = shown (r .ending) b; holds = r .state }

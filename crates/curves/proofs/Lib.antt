@@ -1,4 +1,4 @@
 pub mod Named
-pub mod Placed
+pub mod BlockAt
 pub mod Listing
 pub mod Passes

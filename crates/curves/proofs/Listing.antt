@@ -13,7 +13,7 @@ use Rattle.bsmp.specs.Message.{curveRecord, curveList}
 use Rattle.bsmp.specs.declared.Curve.{Curve}
 use Rattle.lists.specs.Put.{put}
 use Rattle.lists.proofs.Put.{put-set, put-put, set-put}
-use Rattle.parts.specs.Parts.{curvesOnly, Answered}
+use Rattle.parts.specs.Parts.{curvesOnly, PayloadAt}
 use Rattle.parts.proofs.Listing.{Listing, listing-start, listing-piece, listing-end}
 use Rattle.records.proofs.Sound.{curves-most}
 
@@ -68,5 +68,5 @@ module _ (cs : List Curve) (r₀ : List ℕ) (at : ℕ) where
         let z : 5 * (i + 1) ≡ 5 * i + 5 = omega arith in
         rw z (listing-piece _ _ r₀ at (5 * i) r q (curveRecord x) r′ o (omega arith) (rw e (from-next cs i (omega arith))) w)
 
-    pub list-end : n ≤ i → Answered r₀ at (curveList (curvesOnly cs)) (5 * n) r
+    pub list-end : n ≤ i → PayloadAt r₀ at (curveList (curvesOnly cs)) (5 * n) r
     list-end h = listing-end _ _ r₀ at (5 * i) r q (5 * n) (omega arith) (omega arith)

@@ -49,7 +49,7 @@ abbrev pub namedBlock : List Curve → (store payload : List ℕ) → List ℕ
 namedBlock cs store p = getD (blocksIn cs store) (placeOf cs p) []
 
 -- where it stands in the store: inside, and no longer than 01 allows
-pub record Placed (cs : List Curve) (payload : List ℕ) (b : Block) : Type 0 where
+pub record BlockAt (cs : List Curve) (payload : List ℕ) (b : Block) : Type 0 where
   pub place : placeOf cs payload < length (blockSizes cs)
   pub at : b .at ≡ start (blockSizes cs) (placeOf cs payload)
   pub size : b .size ≡ getD (blockSizes cs) (placeOf cs payload) 0

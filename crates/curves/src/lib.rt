@@ -14,9 +14,9 @@ ghost use Rattle.bsmp.specs.Board.{isWritable, usableCurves};
 ghost use Rattle.bsmp.specs.Message.{curveRecord, curveList, check, filled};
 ghost use Rattle.bsmp.specs.declared.Command.the-variants.{ReadBlock, WriteBlock};
 ghost use Rattle.lists.specs.Put.{put};
-ghost use Rattle.parts.specs.Parts.{curvesOnly, Answered};
+ghost use Rattle.parts.specs.Parts.{curvesOnly, PayloadAt};
 ghost use Rattle.records.specs.Lending.{curvesOf};
-ghost use Rattle.curves.specs.Fits.{SoundCurves, BlockNamed, BlockRead, BlockFits, blocksIn, placeOf, namedBlock, Placed};
+ghost use Rattle.curves.specs.Fits.{SoundCurves, BlockNamed, BlockRead, BlockFits, blocksIn, placeOf, namedBlock, BlockAt};
 
 // The number, in its curve, of the block that a payload names.
 fn block_number(payload: &[u8]) -> usize
@@ -89,7 +89,7 @@ impl Block {
     fn of(curves: &[u32], payload: &[u8]) -> Block
         requires { ⌜ usableCurves (curvesOf (now curves)) ≡ true ⌝ }
         requires { ⌜ BlockNamed (curvesOf (now curves)) (now payload) ⌝ }
-        ensures { λ r. ⌜ Placed (curvesOf (now (curves .entry))) (now (payload .entry)) r ⌝ }
+        ensures { λ r. ⌜ BlockAt (curvesOf (now (curves .entry))) (now (payload .entry)) r ⌝ }
     {
         let c = parts::curve_at(payload, 0);
         let size = records::curve_at(curves, c).size as usize;
@@ -121,7 +121,7 @@ pub fn tell(curves: &[u32], blocks: &[u8], payload: &[u8], reply: &mut [u8], at:
     requires { ⌜ at + 4099 ≤ length (now reply) ⌝ }
     ensures { λ r. let payload = now (payload .entry) in
         let block = namedBlock (curvesOf (now (curves .entry))) (now (blocks .entry)) payload in
-        ⌜ Answered (now (reply .entry)) at (payload ++ block) r (now (reply .exit)) ⌝ }
+        ⌜ PayloadAt (now (reply .entry)) at (payload ++ block) r (now (reply .exit)) ⌝ }
 {
     let block = Block::of(curves, payload);
     lists::read_value(payload, 0, 3, reply, at);
@@ -165,7 +165,7 @@ pub fn list(curves: &[u32], reply: &mut [u8], at: usize) -> usize
     requires { ⌜ usableCurves (curvesOf (now curves)) ≡ true ⌝ }
     requires { ⌜ at + 4099 ≤ length (now reply) ⌝ }
     ensures { λ r. let l = curvesOnly (curvesOf (now (curves .entry))) in
-        ⌜ Answered (now (reply .entry)) at (curveList l) r (now (reply .exit)) ⌝ }
+        ⌜ PayloadAt (now (reply .entry)) at (curveList l) r (now (reply .exit)) ⌝ }
 {
     let n = records::curve_count(curves);
     let mut i = 0;

@@ -11,7 +11,7 @@ ghost use lib.ListN.{length};
 ghost use Rattle.bsmp.specs.Board.{usableFunctions};
 ghost use Rattle.bsmp.specs.Message.{functionList, check};
 ghost use Rattle.bsmp.specs.declared.Command.the-variants.{RunFunction};
-ghost use Rattle.parts.specs.Parts.{functionsOnly, Answered};
+ghost use Rattle.parts.specs.Parts.{functionsOnly, PayloadAt};
 ghost use Rattle.records.specs.Lending.{functionsOf};
 
 // 50
@@ -45,7 +45,7 @@ pub fn list(functions: &[u8], reply: &mut [u8], at: usize) -> usize
     requires { ⌜ usableFunctions (functionsOf (now functions)) ≡ true ⌝ }
     requires { ⌜ at + 4099 ≤ length (now reply) ⌝ }
     ensures { λ r. let l = functionsOnly (functionsOf (now (functions .entry))) in
-        ⌜ Answered (now (reply .entry)) at (functionList l) r (now (reply .exit)) ⌝ }
+        ⌜ PayloadAt (now (reply .entry)) at (functionList l) r (now (reply .exit)) ⌝ }
 {
     let n = records::function_count(functions);
     let mut i = 0;

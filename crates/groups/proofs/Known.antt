@@ -12,8 +12,8 @@ use Rattle.bsmp.specs.Board.{marked, members, groupBytes, writableGroup, groupC
 use Rattle.bsmp.specs.Message.{groupAt, noGroup, listed}
 use Rattle.bsmp.specs.declared.GroupNumber.{GroupNumber}
 use Rattle.bsmp.proofs.Bools.{bool-eq}
-use Rattle.parts.specs.Parts.{variablesOnly, Answered}
-use Rattle.sets.specs.Promises.{GroupSet, Placed}
+use Rattle.parts.specs.Parts.{variablesOnly, PayloadAt}
+use Rattle.sets.specs.Promises.{GroupSet, BytesAt}
 use Rattle.sets.specs.Members.{membersBelow, setBytes}
 use Rattle.sets.proofs.Group.{group-fits, group-marks}
 use Rattle.groups.specs.Promises.{GroupKnown}
@@ -74,5 +74,5 @@ module _ (ns : List ℕ) (w : ℕ) (gs : List ℕ) (g : GroupNumber) (set : ℕ)
         listed-other f = rw (writable-told false f, ← marks-are, ← c) (omega arith)
 
 -- what was put into the reply is an answer
-pub answered : (most : ℕ) → most ≤ 4099 → (v r : List ℕ) (at n : ℕ) (r′ : List ℕ) → Placed v most r at n r′ → Answered r at v n r′
-answered most k v r at n r′ h = record { count = h .count; written = h .bytes; short = omega (arith, h .room) }
+pub payload-at : (most : ℕ) → most ≤ 4099 → (v r : List ℕ) (at n : ℕ) (r′ : List ℕ) → BytesAt v most r at n r′ → PayloadAt r at v n r′
+payload-at most k v r at n r′ h = record { count = h .count; written = h .bytes; short = omega (arith, h .room) }

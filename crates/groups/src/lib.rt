@@ -11,10 +11,10 @@ ghost use Prim.Native.Nat.{_+_, _≤_, _<_};
 ghost use lib.ListN.{length, drop};
 ghost use Rattle.bsmp.specs.Base.{some, cut, first};
 ghost use Rattle.bsmp.specs.Board.{sizeOf, marked, members, writableGroup, groupCount};
-ghost use Rattle.bsmp.specs.Message.{badFront, missing, size≠, groupAt, noGroup, listed, groupList, writesGroup, groupMembers, lastTests, check, edited, told};
+ghost use Rattle.bsmp.specs.Message.{badFront, missing, size≠, groupAt, noGroup, listed, groupList, writesGroup, groupMembers, lastTests, check, edited, valuesOf};
 ghost use Rattle.bsmp.specs.declared.Check.the-variants.{Pass, Fail};
 ghost use Rattle.bsmp.specs.declared.Command.the-variants.{ShowGroup, ReadGroup, WriteGroup, MaskGroup, MakeGroup};
-ghost use Rattle.parts.specs.Parts.{variablesOnly, Answered};
+ghost use Rattle.parts.specs.Parts.{variablesOnly, PayloadAt};
 ghost use Rattle.sets.specs.Promises.{Sound, GroupSet};
 ghost use Rattle.groups.specs.Promises.{GroupKnown, GroupFits, Looked};
 
@@ -216,7 +216,7 @@ pub fn tell(
     requires { ⌜ at + 4099 ≤ length (now reply) ⌝ }
     ensures { λ r. let l = variablesOnly (now (sizes .entry)) writable in
         let members = groupMembers l (now (groups .entry)) (now (payload .entry)) in
-        ⌜ Answered (now (reply .entry)) at (told (cut (l .sizes) (now (values .entry))) members) r (now (reply .exit)) ⌝ }
+        ⌜ PayloadAt (now (reply .entry)) at (valuesOf (cut (l .sizes) (now (values .entry))) members) r (now (reply .exit)) ⌝ }
 {
     let set = named_set(writable, groups, payload);
     sets::read_members(sizes, set, values, reply, at)
@@ -236,7 +236,7 @@ pub fn show(
     requires { ⌜ at + 4099 ≤ length (now reply) ⌝ }
     ensures { λ r. let l = variablesOnly (now (sizes .entry)) writable in
         let members = groupMembers l (now (groups .entry)) (now (payload .entry)) in
-        ⌜ Answered (now (reply .entry)) at (map (λ i. i .0) members) r (now (reply .exit)) ⌝ }
+        ⌜ PayloadAt (now (reply .entry)) at (map (λ i. i .0) members) r (now (reply .exit)) ⌝ }
 {
     let set = named_set(writable, groups, payload);
     sets::list_members(sizes.len(), set, reply, at)
@@ -262,7 +262,7 @@ pub fn list(sizes: &[u8], writable: u64, groups: &[u64], reply: &mut [u8], at: u
     requires { ⌜ (length (now sizes) ≤ 64) × (length (now groups) ≤ 5) ⌝ }
     requires { ⌜ at + 4099 ≤ length (now reply) ⌝ }
     ensures { λ r. let l = variablesOnly (now (sizes .entry)) writable in
-        ⌜ Answered (now (reply .entry)) at (groupList l (now (groups .entry))) r (now (reply .exit)) ⌝ }
+        ⌜ PayloadAt (now (reply .entry)) at (groupList l (now (groups .entry))) r (now (reply .exit)) ⌝ }
 {
     let count = 3 + groups.len();
     let mut g = 0;

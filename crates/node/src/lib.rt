@@ -39,8 +39,8 @@ fn regroup(groups: Groups, r: Regroup) -> Groups
 {
     match r {
         Regroup::Keep => groups,
-        Regroup::Make(set) => groups.with(set),
-        Regroup::Remove => groups.without(),
+        Regroup::Make(set) => groups.create(set),
+        Regroup::Remove => groups.remove(),
     }
 }
 

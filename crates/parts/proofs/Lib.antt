@@ -1,3 +1,3 @@
-pub mod Told
+pub mod Tested
 pub mod Passed
 pub mod Listing

@@ -7,7 +7,7 @@ use native.Mathlib.Omega.{arith}
 use lib.ListN.{length, drop, set, getD}
 use Rattle.lists.specs.Put.{put}
 use Rattle.lists.proofs.Put.{put-put, put-done, set-put, length-put, drop-one}
-use Rattle.parts.specs.Parts.{Answered}
+use Rattle.parts.specs.Parts.{PayloadAt}
 
 -- the answer v, of n bytes, goes into r₀ from `at` on
 module _ (v : List ℕ) (n : ℕ) (r₀ : List ℕ) (at : ℕ) where
@@ -44,7 +44,7 @@ module _ (v : List ℕ) (n : ℕ) (r₀ : List ℕ) (at : ℕ) where
         let l : j < length v = omega (arith, q .whole) in
         listing-piece (b ∷ []) (set r (at + j) b) o (omega arith) (rw e (drop-one v j l)) (set-put r (at + j) b k)
 
-    pub listing-end : (m : ℕ) → m ≡ n → m ≤ j → Answered r₀ at v m r
+    pub listing-end : (m : ℕ) → m ≡ n → m ≤ j → PayloadAt r₀ at v m r
     listing-end m e h = record {
       count = e ∙ sym (q .whole);
       written = sym (put-done r (at + j) v j (omega (arith, q .whole))) ∙ q .done;

@@ -31,7 +31,7 @@ pub record Passed (l : Layout) (gs p : List ℕ) (k : Command) : Type 0 where
   pub passes : check l gs marks p k ≡ Pass
 
 -- the payload v of an answer, of n bytes, written into the reply r from `at` on
-pub record Answered (r : List ℕ) (at : ℕ) (v : List ℕ) (n : ℕ) (r′ : List ℕ) : Type 0 where
+pub record PayloadAt (r : List ℕ) (at : ℕ) (v : List ℕ) (n : ℕ) (r′ : List ℕ) : Type 0 where
   pub count : n ≡ length v
   pub written : r′ ≡ put r at v
   pub short : n ≤ 4099

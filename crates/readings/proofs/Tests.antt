@@ -98,22 +98,22 @@ module _ (vs : List Variable) (i : VariableNumber) (s : Bool) (n : ℕ) (j : Jud
     pub good-first : {B : Type 0} (f : Refusal → B) (ok : B) → ok ≡ first (readingTests vs i s n) f ok
     good-first f ok = ap (either f ok) (sym h) ∙ tested f ok
 
-    told : clear (readingTests vs i s n) × (big ≡ isBig (kindAt vs i))
+    passed : clear (readingTests vs i s n) × (big ≡ isBig (kindAt vs i))
     unfolding judgedOf
-    told = first-case (λ z. z ≡ Good big → clear (readingTests vs i s n) × (big ≡ isBig (kindAt vs i))) _ Refused _
+    passed = first-case (λ z. z ≡ Good big → clear (readingTests vs i s n) × (big ≡ isBig (kindAt vs i))) _ Refused _
         (λ x k. absurd (never x k)) (λ c k. (c, cc)) (sym e ∙ h)
       where
         never : (x : Refusal) → Refused x ≡ Good big → ⊥
         never x k = let z : _≡_ {A = ℕ} 0 1 = cc in omega arith
 
     pub good-big : big ≡ isBig (kindAt vs i)
-    good-big = told .1
+    good-big = passed .1
 
     -- a usable variable of a number's kind has a number's size
     pub good-size : isSize n ≡ true
     unfolding usableVariables
     good-size =
-        let at = clear-at (readingTests vs i s n) (told .0) in
+        let at = clear-at (readingTests vs i s n) (passed .0) in
         let v : Variable = recordOf vs i in
         let u : usableVariable v ≡ true = every-at usableVariable vs (i .0) _ (all-at (variableRules vs) (not-false _ (at 0)) 1) (ltb-true _ _ (not-false _ (at 1))) in
         let f : fitsKind (v .size) (kindAt vs i) ≡ true = and-true (isType (v .writable) && usableSize (v .size)) _ u .1 in

@@ -24,18 +24,18 @@ use Rattle.records.proofs.Sound.{Sound, usable-sound, sound-usable}
 
 -- an answer c that is x if b holds, and y if not; the field f tells which
 module _ {A : Type 0} (f : A → Bool) (x y : A) (yes : f x ≡ true) (no : f y ≡ false) where
-  told : (b : Bool) (c : A) → c ≡ cond b x y → f c ≡ b
-  told true c e = ap f e ∙ yes
-  told false c e = ap f e ∙ no
+  tells : (b : Bool) (c : A) → c ≡ cond b x y → f c ≡ b
+  tells true c e = ap f e ∙ yes
+  tells false c e = ap f e ∙ no
 
   chosen : (b : Bool) (c : A) → c ≡ cond b x y → f c ≡ true → c ≡ x
-  chosen b c e h = let o : b ≡ true = sym (told b c e) ∙ h in rw o at e
+  chosen b c e h = let o : b ≡ true = sym (tells b c e) ∙ h in rw o at e
 
 -- what the checks' answers tell
 module _ (vs : List Variable) (c : Checked) (e : c ≡ checkedOf vs) where
   pub records-usable : c .usable ≡ usableVariables vs
   unfolding checkedOf
-  records-usable = told (λ a. a .usable) _ _ refl refl (usableVariables vs) c e
+  records-usable = tells (λ a. a .usable) _ _ refl refl (usableVariables vs) c e
 
   records-known : c .usable ≡ true → c ≡ record { usable = true; total = sum (sizesOf vs); writable = writableOf vs }
   unfolding checkedOf
@@ -50,7 +50,7 @@ module _ (vs : List Variable) (c : Checked) (e : c ≡ checkedOf vs) where
 module _ (cs : List Curve) (c : CurvesChecked) (e : c ≡ curvesCheckedOf cs) where
   pub curves-usable : c .usable ≡ usableCurves cs
   unfolding curvesCheckedOf
-  curves-usable = told (λ a. a .usable) _ _ refl refl (usableCurves cs) c e
+  curves-usable = tells (λ a. a .usable) _ _ refl refl (usableCurves cs) c e
 
   pub curves-total : c .usable ≡ true → c .total ≡ curveBytes cs
   unfolding curvesCheckedOf
@@ -59,7 +59,7 @@ module _ (cs : List Curve) (c : CurvesChecked) (e : c ≡ curvesCheckedOf cs) wh
 module _ (t : Table) (x : Lent) (c : Board) (e : c ≡ boardOf t x) where
   pub board-usable : c .usable ≡ usable t (held (layout t) x)
   unfolding boardOf
-  board-usable = told (λ a. a .usable) _ _ refl refl (usable t (held (layout t) x)) c e
+  board-usable = tells (λ a. a .usable) _ _ refl refl (usable t (held (layout t) x)) c e
 
   pub board-writable : c .usable ≡ true → c .writable ≡ writableOf (t .variables)
   unfolding boardOf

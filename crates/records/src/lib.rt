@@ -331,7 +331,7 @@ pub fn usable_groups(groups: Groups, variables: usize) -> bool
 
 impl Groups {
     // One group more.
-    pub fn with(self, members: u64) -> Groups
+    pub fn create(self, members: u64) -> Groups
         requires { ⌜ self .count < 5 ⌝ }
         ensures { λ r. ⌜ (groupsOf r ≡ groupsOf self ++ (members ∷ [])) × (r .sets ≡ set (self .sets) (self .count) members) ⌝ }
     {
@@ -343,7 +343,7 @@ impl Groups {
     }
 
     // No group; the places keep what they held.
-    pub fn without(self) -> Groups
+    pub fn remove(self) -> Groups
         ensures { λ r. ⌜ (groupsOf r ≡ []) × (r .sets ≡ self .sets) ⌝ }
     {
         let sets = self.sets;

@@ -9,12 +9,12 @@ use borrow.Author.Tests.{ne-eqb}
 use lib.ListN.{length, getD}
 use Rattle.bsmp.specs.Base.{upFrom, only, cut}
 use Rattle.bsmp.specs.Board.{Layout, variable, sizeOf, marked, inGroup, members, groupBytes}
-use Rattle.bsmp.specs.Message.{edited, told}
+use Rattle.bsmp.specs.Message.{edited, valuesOf}
 use Rattle.bsmp.specs.declared.Operation.{Operation}
 use Rattle.bsmp.specs.declared.VariableNumber.{VariableNumber}
 use Rattle.bsmp.specs.declared.GroupNumber.{GroupNumber}
 use Rattle.sets.specs.Members.{membersBelow, membersOf, sizeAt, setBytes, groupSet}
-use Rattle.sets.specs.Promises.{GroupSet, Placed}
+use Rattle.sets.specs.Promises.{GroupSet, BytesAt}
 use Rattle.sets.proofs.Marks.{has-not, has-all}
 use Rattle.sets.proofs.Members.{only-same}
 use Rattle.sets.proofs.AtOnce.{below-declared}
@@ -75,8 +75,8 @@ module _ (l : Layout) (gs : List ℕ) (g : GroupNumber) (ns : List ℕ) (w set :
   group-edit op p vs x q = rw (group-members, e) q
 
   module _ (most : ℕ) (r : List ℕ) (at n : ℕ) (r′ : List ℕ) where
-    pub group-read : (vs : List (List ℕ)) → Placed (told vs (membersOf set ns)) most r at n r′ → Placed (told vs (members l gs g)) most r at n r′
+    pub group-read : (vs : List (List ℕ)) → BytesAt (valuesOf vs (membersOf set ns)) most r at n r′ → BytesAt (valuesOf vs (members l gs g)) most r at n r′
     group-read vs p = rw group-members p
 
-    pub group-list : (c : ℕ) → c ≡ length ns → Placed (map (λ i. i .0) (membersBelow set c)) most r at n r′ → Placed (map (λ i. i .0) (members l gs g)) most r at n r′
+    pub group-list : (c : ℕ) → c ≡ length ns → BytesAt (map (λ i. i .0) (membersBelow set c)) most r at n r′ → BytesAt (map (λ i. i .0) (members l gs g)) most r at n r′
     group-list c o p = rw (group-members, ← o) p

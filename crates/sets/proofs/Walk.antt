@@ -9,7 +9,7 @@ use lib.ListN.{length, take, drop, getD, length-append}
 use lib.Seq.{drop-drop}
 use Rattle.bsmp.specs.Base.{sum, cut, join}
 use Rattle.bsmp.specs.Board.{variable, marked}
-use Rattle.bsmp.specs.Message.{changed, edited, told}
+use Rattle.bsmp.specs.Message.{changed, edited, valuesOf}
 use Rattle.bsmp.specs.declared.Operation.{Operation}
 use Rattle.bsmp.specs.declared.VariableNumber.{VariableNumber}
 use Rattle.lists.specs.Put.{put, part}
@@ -17,7 +17,7 @@ use Rattle.lists.proofs.Put.{put-nil, put-put, length-put, length-part}
 use Rattle.lists.proofs.Sum.{total-within, total-take, total-drop}
 use Rattle.lists.proofs.Pieces.{value-part, cut-change}
 use Rattle.sets.specs.Members.{membersBelow, membersOf, sizeAt, setBytes}
-use Rattle.sets.specs.Promises.{Sound, Placed, Turned}
+use Rattle.sets.specs.Promises.{Sound, BytesAt, Turned}
 use Rattle.sets.proofs.Members.{membersFrom, from-next, from-end, from-all}
 
 -- what a turn leaves, as its two branches have it; h is the code's answer to whether the variable is a member
@@ -77,7 +77,7 @@ module _ (f : VariableNumber → List ℕ) (m n most : ℕ) (r₀ : List ℕ) (a
       (rw e l) g o (rw e t) (rw (from-next m n i h) at q)
 
   lay-end : (i left : ℕ) (r : List ℕ) (to : ℕ) → n ≤ i → Laying f (membersBelow m n) most r₀ at (membersFrom m n i) left r to
-      → Placed (join (map f (membersBelow m n))) most r₀ at (to - at) r
+      → BytesAt (join (map f (membersBelow m n))) most r₀ at (to - at) r
   lay-end i left r to h q =
       let w : Laying f (membersBelow m n) most r₀ at [] left r to = rw (from-end m n i h) at q in
       record { count = omega (arith, w .next, w .begun); room = omega (arith, w .room); bytes = sym (put-nil r to) ∙ w .done }
@@ -112,8 +112,8 @@ module _ (ns s : List ℕ) (m : ℕ) (r₀ : List ℕ) (at : ℕ) where
   pub read-room : (i : ℕ) (r : List ℕ) (to : ℕ) → i < length ns → at + 4096 ≤ length r₀ → Reading i r to → to + getD ns i 0 ≤ length r
   read-room i r to h o q = omega (arith, total-drop ns i h, q .room, q .kept)
 
-  pub read-end : (i : ℕ) (r : List ℕ) (to : ℕ) → length ns ≤ i → Reading i r to → Placed (told (cut ns s) (membersOf m ns)) 4096 r₀ at (to - at) r
-  unfolding told
+  pub read-end : (i : ℕ) (r : List ℕ) (to : ℕ) → length ns ≤ i → Reading i r to → BytesAt (valuesOf (cut ns s) (membersOf m ns)) 4096 r₀ at (to - at) r
+  unfolding valuesOf
   read-end i r to h q = lay-end _ m (length ns) 4096 r₀ at i (sum (drop i ns)) r to h q
 
 -- the members' numbers
@@ -128,7 +128,7 @@ module _ (m n : ℕ) (r₀ : List ℕ) (at : ℕ) where
       → Listing i r to → Listing (i + 1) r′ to′
   list-next i r to r′ to′ h o t q = lay-next _ m n 64 r₀ at i 1 (n - i) (n - (i + 1)) (i ∷ []) r to r′ to′ h refl refl (omega arith) o t q
 
-  pub list-end : (i : ℕ) (r : List ℕ) (to : ℕ) → n ≤ i → Listing i r to → Placed (map (λ j. j .0) (membersBelow m n)) 64 r₀ at (to - at) r
+  pub list-end : (i : ℕ) (r : List ℕ) (to : ℕ) → n ≤ i → Listing i r to → BytesAt (map (λ j. j .0) (membersBelow m n)) 64 r₀ at (to - at) r
   list-end i r to h q = rw (← singles (membersBelow m n)) (lay-end _ m n 64 r₀ at i (n - i) r to h q)
     where
       singles : (is : List VariableNumber) → join (map (λ j. j .0 ∷ []) is) ≡ map (λ j. j .0) is

@@ -8,7 +8,7 @@ use lib.ListN.{length, take, drop, getD, set, length-append, length-drop, length
 use lib.Seq.{take-all, getD-append-seam, set-append-seam}
 use Rattle.bsmp.specs.Base.{sum, upFrom, only, cut, join}
 use Rattle.bsmp.specs.Board.{variable, marked}
-use Rattle.bsmp.specs.Message.{changed, edited, told}
+use Rattle.bsmp.specs.Message.{changed, edited, valuesOf}
 use Rattle.bsmp.specs.declared.Operation.{Operation}
 use Rattle.bsmp.specs.declared.VariableNumber.{VariableNumber}
 use Rattle.bsmp.proofs.Lists.{map-map, map-numbers}
@@ -17,7 +17,7 @@ use Rattle.lists.specs.Put.{put, part}
 use Rattle.lists.proofs.Put.{put-all}
 use Rattle.lists.proofs.Mask.{length-mask, take-changed, drop-changed}
 use Rattle.sets.specs.Members.{membersBelow, membersOf, sizeAt, setBytes}
-use Rattle.sets.specs.Promises.{Sound, Placed}
+use Rattle.sets.specs.Promises.{Sound, BytesAt}
 use Rattle.sets.proofs.Marks.{has-all}
 use Rattle.sets.proofs.Members.{only-same}
 
@@ -59,15 +59,15 @@ module _ (ns : List ℕ) (x : ℕ) (few : length ns ≤ 64) (w : x ≡ sum (take
   small-whole h = omega (arith, all-bytes, sum-small ns h)
 
 module _ (ns s : List ℕ) (z : Sound ns s) where
-  all-told : told (cut ns s) (membersOf (2 ^ 64 - 1) ns) ≡ s
-  unfolding told
+  all-told : valuesOf (cut ns s) (membersOf (2 ^ 64 - 1) ns) ≡ s
+  unfolding valuesOf
   all-told =
       ap (λ is. join (map (λ j. getD (cut ns s) (j .0) []) is)) (all-members (length ns) (z .few) ∙ ap (λ k. map variable (upFrom 0 k)) (sym (cut-length ns s (z .exact))))
       ∙ ap join (at-all (cut ns s) []) ∙ join-cut ns s
 
   -- the values of all, put into the reply as they stand
   pub read-whole : (m : ℕ) (r : List ℕ) (at : ℕ) (r′ : List ℕ) → m ≡ 2 ^ 64 - 1 → r′ ≡ put r at (part s 0 (length s))
-      → Placed (told (cut ns s) (membersOf m ns)) 4096 r at (length s) r′
+      → BytesAt (valuesOf (cut ns s) (membersOf m ns)) 4096 r at (length s) r′
   unfolding part
   read-whole m r at r′ e w = rw (e, all-told) (record {
     count = refl;

@@ -30,7 +30,7 @@ pub record GroupSet (writable : ℕ) (groups : List ℕ) (g : GroupNumber) (set 
   pub members-are : (l : Layout) → l .writable ≡ writable → length (l .sizes) ≤ 64 → members l groups g ≡ membersOf set (l .sizes)
 
 -- n bytes, at most so many, were put into the reply from a place on, and no others
-pub record Placed (payload : List ℕ) (most : ℕ) (reply : List ℕ) (at n : ℕ) (reply′ : List ℕ) : Type 0 where
+pub record BytesAt (payload : List ℕ) (most : ℕ) (reply : List ℕ) (at n : ℕ) (reply′ : List ℕ) : Type 0 where
   pub count : n ≡ length payload
   pub room : n ≤ most
   pub bytes : reply′ ≡ put reply at payload

@@ -10,10 +10,10 @@ ghost use lib.Dec.{eqb};
 ghost use lib.ListN.{length, drop};
 ghost use Rattle.bsmp.specs.Base.{cut, every, some};
 ghost use Rattle.bsmp.specs.Board.{marked};
-ghost use Rattle.bsmp.specs.Message.{changed, edited, told};
+ghost use Rattle.bsmp.specs.Message.{changed, edited, valuesOf};
 ghost use Rattle.lists.specs.Put.{part};
 ghost use Rattle.sets.specs.Members.{membersOf, membersBelow, sizeAt, setBytes};
-ghost use Rattle.sets.specs.Promises.{Sound, Below, Named, GroupSet, Placed, Turned};
+ghost use Rattle.sets.specs.Promises.{Sound, Below, Named, GroupSet, BytesAt, Turned};
 
 // Whether variable i is marked.
 pub fn is_marked(marks: u64, i: VariableNumber) -> bool
@@ -142,7 +142,7 @@ pub fn read_members(sizes: &[u8], set: u64, values: &[u8], reply: &mut [u8], at:
     requires { ⌜ Sound (now sizes) (now values) ⌝ }
     requires { ⌜ at + 4096 ≤ length (now reply) ⌝ }
     ensures { λ r. let sizes = now (sizes .entry) in
-        ⌜ Placed (told (cut sizes (now (values .entry))) (membersOf set sizes)) 4096 (now (reply .entry)) at r (now (reply .exit)) ⌝ }
+        ⌜ BytesAt (valuesOf (cut sizes (now (values .entry))) (membersOf set sizes)) 4096 (now (reply .entry)) at r (now (reply .exit)) ⌝ }
 {
     // all variables, as of group 0: their values are the store as it stands
     if set == !0 {
@@ -230,7 +230,7 @@ fn list_turn(set: u64, i: VariableNumber, reply: &mut [u8], to: usize) -> usize
 // The members' numbers, ascending, a byte each, into the reply from `at` on; answers how many they are.
 pub fn list_members(count: usize, set: u64, reply: &mut [u8], at: usize) -> usize
     requires { ⌜ (count ≤ 64) × (at + 64 ≤ length (now reply)) ⌝ }
-    ensures { λ r. ⌜ Placed (map (λ i. i .0) (membersBelow set count)) 64 (now (reply .entry)) at r (now (reply .exit)) ⌝ }
+    ensures { λ r. ⌜ BytesAt (map (λ i. i .0) (membersBelow set count)) 64 (now (reply .entry)) at r (now (reply .exit)) ⌝ }
 {
     let mut to = at;
     let mut i = 0;

@@ -14,7 +14,7 @@ use Rattle.bsmp.specs.declared.Variable.{Variable}
 use Rattle.bsmp.proofs.Bools.{and-true, all-at}
 use Rattle.bsmp.proofs.Lists.{length-upFrom}
 use Rattle.bsmp.proofs.Marks.{at-number}
-use Rattle.parts.specs.Parts.{variablesOnly, Answered}
+use Rattle.parts.specs.Parts.{variablesOnly, PayloadAt}
 use Rattle.parts.proofs.Listing.{Listing, listing-start, listing-byte, listing-end}
 
 -- every size of a usable board fits seven bits
@@ -54,5 +54,5 @@ module _ (ns : List ℕ) (w : ℕ) where
           listing-byte _ _ r₀ at i r q b o h
           (k ∙ ap (λ (x : Bool). listed x (getD ns i 0)) e ∙ sym (at-number byteOf 0 (length ns) i 0 h ∙ ap byteOf z))
 
-      pub list-end : length ns ≤ i → Answered r₀ at (variableList (variablesOnly ns w)) i r
+      pub list-end : length ns ≤ i → PayloadAt r₀ at (variableList (variablesOnly ns w)) i r
       list-end h = listing-end _ _ r₀ at i r q i (omega (arith, q .inside)) (omega arith)

@@ -5,7 +5,7 @@ use Prim.Native.Nat.{ℕ, _+_, _≤_, _<_}
 use native.Mathlib.Omega.{arith}
 use lib.ListN.{length, take, drop, getD}
 use Rattle.bsmp.specs.Base.{sum, cut, byteAt}
-use Rattle.bsmp.specs.Message.{variableAt, changed, edited, told}
+use Rattle.bsmp.specs.Message.{variableAt, changed, edited, valuesOf}
 use Rattle.bsmp.specs.declared.Operation.{Operation}
 use Rattle.bsmp.specs.declared.VariableNumber.{VariableNumber}
 use Rattle.lists.specs.Put.{put, part}
@@ -14,7 +14,7 @@ use Rattle.lists.proofs.Pieces.{value-part, edit-one}
 use Rattle.sets.specs.Members.{sizeAt}
 use Rattle.sets.specs.Promises.{Sound}
 use Rattle.sets.proofs.Walk.{place-room}
-use Rattle.parts.specs.Parts.{Answered}
+use Rattle.parts.specs.Parts.{PayloadAt}
 
 -- a change keeps the store's length, so the next call may lean on it
 pub sound-kept : (ns s s′ : List ℕ) → Sound ns s → length s′ ≡ length s → Sound ns s′
@@ -33,8 +33,8 @@ module _ (ns s : List ℕ) (i : VariableNumber) (at n : ℕ) (z : Sound ns s) (h
   one-reply to l k = omega (arith, one-room, z .small)
 
   pub one-told : (p : List ℕ) (j to : ℕ) (r r′ : List ℕ) → i ≡ variableAt p j → r′ ≡ put r to (part s at n)
-      → Answered r to (told (cut ns s) (variableAt p j ∷ [])) n r′
-  unfolding told
+      → PayloadAt r to (valuesOf (cut ns s) (variableAt p j ∷ [])) n r′
+  unfolding valuesOf
   one-told p j to r r′ q k =
       let v : getD (cut ns s) (byteAt p j) [] ≡ part s at n = rw (← ap (λ (x : VariableNumber). x .0) q, w) (value-part ns s (i .0) at h e) in
       rw (append-nil, v) (record { count = sym (length-part s at n one-room); written = k; short = omega (arith, one-room, z .small) })

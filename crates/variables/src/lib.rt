@@ -10,13 +10,13 @@ ghost use Prim.Native.Nat.{_+_, _≤_, _<_};
 ghost use lib.ListN.{length, drop};
 ghost use Rattle.bsmp.specs.Base.{first, every, cut, byteAt};
 ghost use Rattle.bsmp.specs.Board.{usableSize};
-ghost use Rattle.bsmp.specs.Message.{variableAt, writesVariable, lastTests, listed, variableList, check, edited, told};
+ghost use Rattle.bsmp.specs.Message.{variableAt, writesVariable, lastTests, listed, variableList, check, edited, valuesOf};
 ghost use Rattle.bsmp.specs.declared.Check.the-variants.{Pass, Fail};
 ghost use Rattle.bsmp.specs.declared.Command.the-variants.{ReadVariable, WriteVariable, MaskVariable, WriteRead};
 ghost use Rattle.bsmp.specs.declared.Operation.the-variants.{Replace};
 ghost use Rattle.sets.specs.Members.{sizeAt};
 ghost use Rattle.sets.specs.Promises.{Sound};
-ghost use Rattle.parts.specs.Parts.{variablesOnly, Answered};
+ghost use Rattle.parts.specs.Parts.{variablesOnly, PayloadAt};
 ghost use Rattle.variables.specs.Fits.{OneFits};
 
 fn size_of(sizes: &[u8], i: VariableNumber) -> usize
@@ -182,8 +182,8 @@ pub fn tell(
 ) -> usize
     requires { ⌜ Sound (now sizes) (now values) ⌝ }
     requires { ⌜ (j < length (now payload)) × (byteAt (now payload) j < length (now sizes)) × (at + 4099 ≤ length (now reply)) ⌝ }
-    ensures { λ r. let value = told (cut (now (sizes .entry)) (now (values .entry))) (variableAt (now (payload .entry)) j ∷ []) in
-        ⌜ Answered (now (reply .entry)) at value r (now (reply .exit)) ⌝ }
+    ensures { λ r. let value = valuesOf (cut (now (sizes .entry)) (now (values .entry))) (variableAt (now (payload .entry)) j ∷ []) in
+        ⌜ PayloadAt (now (reply .entry)) at value r (now (reply .exit)) ⌝ }
 {
     let i = parts::variable_at(payload, j);
     let from = lists::offset(sizes, i.0);
@@ -205,7 +205,7 @@ fn list_byte(writable: bool, size: u8) -> u8
 // A byte per variable into the reply from `at` on, top bit 1 if writable, low seven the size; answers how many they are.
 pub fn list(sizes: &[u8], writable: u64, reply: &mut [u8], at: usize) -> usize
     requires { ⌜ (length (now sizes) ≤ 64) × (every usableSize (now sizes) ≡ true) × (at + 4099 ≤ length (now reply)) ⌝ }
-    ensures { λ r. ⌜ Answered (now (reply .entry)) at (variableList (variablesOnly (now (sizes .entry)) writable)) r (now (reply .exit)) ⌝ }
+    ensures { λ r. ⌜ PayloadAt (now (reply .entry)) at (variableList (variablesOnly (now (sizes .entry)) writable)) r (now (reply .exit)) ⌝ }
 {
     let mut i = 0;
     while i < sizes.len() {

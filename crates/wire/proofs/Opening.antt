@@ -77,9 +77,9 @@ module _ {B : Type 0} (own mc : ℕ) (p : List ℕ) (f : Refusal → B) (ok y : 
   message-first d h e q = q ∙ ap (either f ok) (sym e) ∙ tested h
 
 module _ (own mc : ℕ) (p : List ℕ) (o : Opened) (d : Bool) (h : o ≡ openedOf (placed own mc) p) (e : o ≡ Message d) where
-  told : clear (packetTests (placed own mc) p) × (d ≡ isOwn (placed own mc) (destination p))
+  passed : clear (packetTests (placed own mc) p) × (d ≡ isOwn (placed own mc) (destination p))
   unfolding openedOf
-  told = first-case (λ z. z ≡ Message d → clear (packetTests (placed own mc) p) × (d ≡ isOwn (placed own mc) (destination p))) _ Refused _
+  passed = first-case (λ z. z ≡ Message d → clear (packetTests (placed own mc) p) × (d ≡ isOwn (placed own mc) (destination p))) _ Refused _
       (λ x k. absurd (never x k)) (λ c k. (c, cc)) (sym h ∙ e)
     where
       never : (x : Refusal) → Refused x ≡ Message d → ⊥
@@ -87,10 +87,10 @@ module _ (own mc : ℕ) (p : List ℕ) (o : Opened) (d : Bool) (h : o ≡ opened
 
   -- whether an answer is due
   pub message-due : d ≡ isOwn (placed own mc) (destination p)
-  message-due = told .1
+  message-due = passed .1
 
   sized : (ltb (length p) 2 ≡ false) × (ltb 4104 (length p) ≡ false)
-  sized = or-false (ltb (length p) 2) _ (clear-at (packetTests (placed own mc) p) (told .0) 0)
+  sized = or-false (ltb (length p) 2) _ (clear-at (packetTests (placed own mc) p) (passed .0) 0)
 
   pub message-least : 2 ≤ length p
   message-least = ltb-false _ _ (sized .0)

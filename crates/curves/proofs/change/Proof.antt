@@ -2,7 +2,7 @@
 use borrow.Author.Needs.{needs}
 use native.Mathlib.Omega.{arith}
 use lib.ListN.{length-take, length-drop}
-use Rattle.curves.proofs.Placed.{block-filled}
+use Rattle.curves.proofs.BlockAt.{block-filled}
 use Rattle.curves.proofs.change.Statement.{statement}
 use Rattle.curves.proofs.change.Tie as tie
 

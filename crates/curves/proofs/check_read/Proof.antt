@@ -3,7 +3,7 @@ use borrow.Author.Needs.{needs}
 use borrow.Author.Tests.{eq-eqb, ne-eqb}
 use Rattle.bsmp.specs.Message.{line, check}
 use Rattle.bsmp.proofs.Chain.{first-next, first-stop}
-use Rattle.parts.proofs.Told.{idle-end, not-on, not-off}
+use Rattle.parts.proofs.Tested.{idle-end, not-on, not-off}
 use Rattle.curves.proofs.Named.{curve-missing, curve-known, block-told}
 use Rattle.curves.proofs.check_read.Statement.{statement}
 use Rattle.curves.proofs.check_read.Tie as tie

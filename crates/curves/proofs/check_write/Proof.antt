@@ -3,7 +3,7 @@ use borrow.Author.Needs.{needs}
 use borrow.Author.Tests.{lt-ltb, le-ltb}
 use Rattle.bsmp.specs.Message.{line, check}
 use Rattle.bsmp.proofs.Chain.{first-next, first-stop}
-use Rattle.parts.proofs.Told.{idle-end}
+use Rattle.parts.proofs.Tested.{idle-end}
 use Rattle.curves.proofs.Named.{curve-missing, curve-known, block-told, rest-none, rest-long, rest-fits, curve-writable, curve-fixed}
 use Rattle.curves.proofs.check_write.Statement.{statement}
 use Rattle.curves.proofs.check_write.Tie as tie

@@ -1,6 +1,6 @@
 -- `tell` meets its contract. Assumes nothing.
 use borrow.Author.Needs.{needs}
-use Rattle.curves.proofs.Placed.{block-answered}
+use Rattle.curves.proofs.BlockAt.{block-answered}
 use Rattle.curves.proofs.tell.Statement.{statement}
 use Rattle.curves.proofs.tell.Tie as tie
 

@@ -3,7 +3,7 @@ use borrow.Author.Needs.{needs}
 use borrow.Author.Tests.{lt-ltb, le-ltb}
 use Rattle.bsmp.specs.Message.{line, check}
 use Rattle.bsmp.proofs.Chain.{first-next, first-stop}
-use Rattle.parts.proofs.Told.{idle-end}
+use Rattle.parts.proofs.Tested.{idle-end}
 use Rattle.functions.proofs.Named.{function-missing, function-known, input-other, input-whole}
 use Rattle.functions.proofs.check_run.Statement.{statement}
 use Rattle.functions.proofs.check_run.Tie as tie

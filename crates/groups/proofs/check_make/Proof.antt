@@ -3,7 +3,7 @@ use borrow.Author.Needs.{needs}
 use borrow.Author.Tests.{lt-ltb, le-ltb, le-leb, lt-leb}
 use Rattle.bsmp.specs.Message.{line, check}
 use Rattle.bsmp.proofs.Chain.{first-next, first-stop, first-end}
-use Rattle.parts.proofs.Told.{unmarked, not-on, not-off, or-left, or-right, or-none}
+use Rattle.parts.proofs.Tested.{unmarked, not-on, not-off, or-left, or-right, or-none}
 use Rattle.groups.proofs.Ascend.{unknown-told, ascending-told}
 use Rattle.groups.proofs.check_make.Statement.{statement}
 use Rattle.groups.proofs.check_make.Tie as tie

@@ -4,7 +4,7 @@ use borrow.Author.Needs.{needs}
 use borrow.Author.Tests.{lt-ltb, le-ltb}
 use Rattle.bsmp.specs.Message.{line, check}
 use Rattle.bsmp.proofs.Chain.{first-next, first-stop}
-use Rattle.parts.proofs.Told.{operation-told}
+use Rattle.parts.proofs.Tested.{operation-told}
 use Rattle.groups.proofs.Known.{group-told, group-known}
 use Rattle.groups.proofs.check_mask.Statement.{statement}
 use Rattle.groups.proofs.check_mask.Tie as tie

@@ -2,7 +2,7 @@
 use borrow.Author.Needs.{needs}
 use borrow.Author.Tests.{eq-eqb, ne-eqb}
 use Rattle.bsmp.proofs.Chain.{first-next, first-stop, first-end}
-use Rattle.parts.proofs.Told.{not-on, not-off}
+use Rattle.parts.proofs.Tested.{not-on, not-off}
 use Rattle.groups.proofs.Known.{group-told}
 use Rattle.groups.proofs.names.Statement.{statement}
 use Rattle.groups.proofs.names.Tie as tie

@@ -2,7 +2,7 @@
 use borrow.Author.Needs.{needs}
 use Rattle.bsmp.specs.Message.{writesGroup}
 use Rattle.bsmp.proofs.Chain.{first-next, first-stop}
-use Rattle.parts.proofs.Told.{free-end, not-on, not-off}
+use Rattle.parts.proofs.Tested.{free-end, not-on, not-off}
 use Rattle.groups.proofs.Known.{bytes-same, bytes-other, writable-told, busy-told}
 use Rattle.groups.proofs.writes.Statement.{statement}
 use Rattle.groups.proofs.writes.Tie as tie

@@ -1,6 +1,6 @@
 -- `check_empty` meets its contract. Assumes nothing.
 use borrow.Author.Needs.{needs}
-use Rattle.parts.proofs.Told.{steps}
+use Rattle.parts.proofs.Tested.{steps}
 use Rattle.parts.proofs.check_empty.Statement.{statement}
 use Rattle.parts.proofs.check_empty.Tie as tie
 

@@ -2,7 +2,7 @@
 use borrow.Author.Tests.{eq-eqb, ne-eqb}
 use Rattle.bsmp.specs.Message.{line, check}
 use Rattle.bsmp.proofs.Chain.{first-next, first-stop}
-use Rattle.parts.proofs.Told.{idle-end, not-on, not-off}
+use Rattle.parts.proofs.Tested.{idle-end, not-on, not-off}
 use Rattle.variables.proofs.Named.{named-known, named-missing}
 use borrow.Author.Needs.{needs}
 use Rattle.variables.proofs.check_read.Statement.{statement}

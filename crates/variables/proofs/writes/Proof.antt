@@ -1,6 +1,6 @@
 -- `writes` meets its contract. Assumes nothing.
 use Rattle.bsmp.proofs.Chain.{first-next, first-stop}
-use Rattle.parts.proofs.Told.{free-end}
+use Rattle.parts.proofs.Tested.{free-end}
 use Rattle.bsmp.specs.Message.{writesVariable}
 use Rattle.variables.proofs.Named.{named-marked, named-whole}
 use borrow.Author.Needs.{needs}

@@ -1,6 +1,6 @@
 -- `Block::of` meets its contract. Assumes nothing.
 use borrow.Author.Needs.{needs}
-use Rattle.curves.proofs.Placed.{named-inside, placed-mul, placed-add, placed}
+use Rattle.curves.proofs.BlockAt.{named-inside, placed-mul, placed-add, placed}
 use Rattle.curves.proofs.Block.of.Statement.{statement}
 use Rattle.curves.proofs.Block.of.Tie as tie
 

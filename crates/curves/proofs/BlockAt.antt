@@ -19,12 +19,12 @@ use Rattle.lists.specs.Put.{put, part}
 use Rattle.lists.proofs.Put.{put-back, put-put, mid-rest, length-part}
 use Rattle.lists.proofs.Pieces.{value-part}
 use Rattle.lists.proofs.Blocks.{cut-fill}
-use Rattle.parts.specs.Parts.{Answered}
+use Rattle.parts.specs.Parts.{PayloadAt}
 use Rattle.records.specs.Checks.{curveBytes}
 use Rattle.records.proofs.Sound.{curves-small, curve-size}
 use Rattle.records.proofs.Blocks.{block-at, block-size, block-inside, block-room}
 use Rattle.curves.specs.declared.Block.{Block}
-use Rattle.curves.specs.Fits.{SoundCurves, BlockNamed, BlockRead, BlockFits, namedCurve, blocksIn, placeOf, namedBlock, Placed}
+use Rattle.curves.specs.Fits.{SoundCurves, BlockNamed, BlockRead, BlockFits, namedCurve, blocksIn, placeOf, namedBlock, BlockAt}
 use Rattle.curves.proofs.Named.{number, named-record}
 
 -- as code works it out: x is the curve's record, b the bytes of the curves before it, k the block's number
@@ -51,7 +51,7 @@ module _ (cs : List Curve) (p : List ℕ) (c : CurveNumber) (h : c ≡ curveAt p
     pub placed-add : Fits w64 (b + k * x .size)
     placed-add = record { fits = omega (arith, room, curves-small cs u) }
 
-    pub placed : Placed cs p (record { at = b + k * x .size; size = x .size })
+    pub placed : BlockAt cs p (record { at = b + k * x .size; size = x .size })
     placed = record {
       place = block-inside cs (curveAt p 0 .0) (wordAt p 1) x (n .known) own below;
       at = ap₂ (λ (y z : ℕ). y + z * x .size) before w ∙ sym (block-at cs (curveAt p 0 .0) (wordAt p 1) x (n .known) own below);
@@ -61,7 +61,7 @@ module _ (cs : List Curve) (p : List ℕ) (c : CurveNumber) (h : c ≡ curveAt p
       small = rw own (curve-size cs u (curveAt p 0 .0) (n .known) .1);
     }
 
-module _ (cs : List Curve) (s p : List ℕ) (b : Block) (z : SoundCurves cs s) (w : Placed cs p b) where
+module _ (cs : List Curve) (s p : List ℕ) (b : Block) (z : SoundCurves cs s) (w : BlockAt cs p b) where
   -- the payload's bytes from 3 on over the block's first
   pub block-filled : (ys : List ℕ) → BlockFits cs p → ys ≡ put (midOf (b .at) (length s - b .at) s) 0 (midOf 3 (length p - 3) p)
       → blocksIn cs (putMid (b .at) (length s - b .at) s ys) ≡ set (blocksIn cs s) (placeOf cs p) (filled (drop 3 p) (namedBlock cs s p))
@@ -73,7 +73,7 @@ module _ (cs : List Curve) (s p : List ℕ) (b : Block) (z : SoundCurves cs s) (
 
   -- the payload, and the block's bytes behind it
   pub block-answered : (at : ℕ) (r r₁ r₂ : List ℕ) → BlockRead cs p → at + 4099 ≤ length r → r₁ ≡ put r at (part p 0 3) → r₂ ≡ put r₁ (at + 3) (part s (b .at) (b .size))
-      → Answered r at (p ++ namedBlock cs s p) (3 + b .size) r₂
+      → PayloadAt r at (p ++ namedBlock cs s p) (3 + b .size) r₂
   unfolding part
   block-answered at r r₁ r₂ f o e g =
       let v : namedBlock cs s p ≡ part s (b .at) (b .size) = rw (w .size) (value-part (blockSizes cs) s (placeOf cs p) (b .at) (w .place) (w .at)) in

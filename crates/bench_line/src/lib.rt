@@ -62,7 +62,7 @@ fn put_answer(out: &mut [u8], at: usize, reply: &[u8], n: usize) -> usize
 }
 
 // The line of an outcome, without its end; answers the index after it.
-pub fn line(number: u64, o: Outcome, packet: &[u8], reply: &[u8], out: &mut [u8]) -> usize
+pub fn put_line(number: u64, o: Outcome, packet: &[u8], reply: &[u8], out: &mut [u8]) -> usize
     requires { ⌜ (length (now reply) ≡ 4104) × (9000 ≤ length (now out)) ⌝ }
     ensures { λ r. ⌜ r < 9000 ⌝ }
 {
