@@ -105,16 +105,18 @@ module _ (l : Layout) (own mc busy : ℕ) (p : List ℕ) (x : Lent) (b : List �
 
     module _ (room : 4104 ≤ length b) (d : Opened) (e : d ≡ openedOf (placed own mc) p) where
       -- the packet's own tests are left
-      opening : (z : Result)
-          → z ≡ first (packetTests (placed own mc) p) (refuse (held l x)) (answered (isOwn (placed own mc) (destination p)) (handled l busy (message p) (held l x)))
-          → z ≡ Received
+      abbrev Work : Result
+      Work = answered (isOwn (placed own mc) (destination p)) (handled l busy (message p) (held l x))
+
+      opening : (z : Result) → z ≡ first (packetTests (placed own mc) p) (refuse (held l x)) Work → z ≡ Received
       opening z q =
           first-next _ _ _ _ _ _ _ refl (first-next _ _ _ _ _ _ _ (ap not (sym pl) ∙ v) (first-next _ _ _ _ _ _ _ (le-ltb _ _ room) (first-end _ _ _ q)))
 
       pub receive-refused : (o : Outcome) (n : Refusal) → d ≡ Refused n → o ≡ unopenedOf d → Receives o Keep b x
       receive-refused o n q f = record {
         ends =
-            stopped l x b Received n o Keep (opening _ (refused-first own mc p (refuse (held l x)) _ (refuse (held l x) n) d n e q refl)) (f ∙ ap unopenedOf q) refl;
+            stopped l x b Received n o Keep
+            (opening _ (refused-first own mc p (refuse (held l x)) _ (refuse (held l x) n) d n e q refl)) (f ∙ ap unopenedOf q) refl;
       }
 
       pub receive-served : (due : Bool) (s : Spoken) (g : Regroup) (b₁ : List ℕ) (y : Lent) (o : Outcome) (b₂ : List ℕ) → d ≡ Message due
