@@ -8,7 +8,7 @@ use borrow.Rule.Slice.PartMut.{midOf}
 use borrow.Author.Tests.{le-ltb, lt-ltb}
 use lib.ListN.{length}
 use Rattle.bsmp.specs.Base.{first}
-use Rattle.bsmp.specs.Board.{Layout, State}
+use Rattle.bsmp.specs.Board.{Layout}
 use Rattle.bsmp.specs.Message.{Said, replies, runs, handled}
 use Rattle.bsmp.specs.Packet.{Result, refuse, usablePlace, packetTests, isOwn, destination, message, answered, frame, ends}
 use Rattle.bsmp.specs.Store.{Lent, held, outcomeOf, shown}

@@ -18,7 +18,7 @@ use Rattle.bsmp.specs.declared.Command.the-variants.{RunFunction}
 use Rattle.bsmp.specs.declared.Check.{Check}
 use Rattle.bsmp.specs.declared.Check.the-variants.{Pass, Fail}
 use Rattle.lists.proofs.Put.{put-nil, mid-rest}
-use Rattle.parts.specs.Parts.{layoutOf, Passed}
+use Rattle.parts.specs.Parts.{Passed}
 use Rattle.judging.proofs.Judging.{message-long, message-passed}
 use Rattle.answers.specs.Answers.{spokenOf, Spoke}
 use Rattle.answers.specs.declared.Spoken.{Spoken}
