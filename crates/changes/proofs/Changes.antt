@@ -71,12 +71,13 @@ module _ (l : Layout) (x : Lent) where
   unfolding after
   kept = record { holds = refl }
 
-  values-edited : (op : Operation) (is : List VariableNumber) (ps : List (List ℕ)) (vs : List ℕ) → cut (l .sizes) vs ≡ edited op is ps (cut (l .sizes) (x .values))
-      → ChangedBy l x (edit op is ps) Keep (lent vs (x .curves) (x .groups))
+  values-edited : (op : Operation) (is : List VariableNumber) (ps : List (List ℕ)) (vs : List ℕ)
+      → cut (l .sizes) vs ≡ edited op is ps (cut (l .sizes) (x .values)) → ChangedBy l x (edit op is ps) Keep (lent vs (x .curves) (x .groups))
   unfolding after
   values-edited op is ps vs h = record { holds = ap (λ v. record { values = v; blocks = held l x .blocks; groups = x .groups }) h }
 
-  block-filled : (k : ℕ) (d bs : List ℕ) → blocksIn (l .curves) bs ≡ set (blocksIn (l .curves) (x .curves)) k (filled d (getD (blocksIn (l .curves) (x .curves)) k []))
+  block-filled : (k : ℕ) (d bs : List ℕ)
+      → blocksIn (l .curves) bs ≡ set (blocksIn (l .curves) (x .curves)) k (filled d (getD (blocksIn (l .curves) (x .curves)) k []))
       → ChangedBy l x (fill k d) Keep (lent (x .values) bs (x .groups))
   unfolding after
   block-filled k d bs h = record { holds = ap (λ b. record { values = held l x .values; blocks = b; groups = x .groups }) h }

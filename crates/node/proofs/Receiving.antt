@@ -8,7 +8,7 @@ use borrow.Rule.Slice.PartMut.{midOf}
 use borrow.Author.Tests.{le-ltb, lt-ltb}
 use lib.ListN.{length}
 use Rattle.bsmp.specs.Base.{first}
-use Rattle.bsmp.specs.Board.{Layout, State}
+use Rattle.bsmp.specs.Board.{Layout}
 use Rattle.bsmp.specs.Message.{Said, replies, runs, handled}
 use Rattle.bsmp.specs.Packet.{Result, refuse, usablePlace, packetTests, isOwn, destination, message, frame, ends, served}
 use Rattle.bsmp.specs.Store.{Lent, held, outcomeOf, shown}
@@ -105,16 +105,18 @@ module _ (l : Layout) (own mc busy : ℕ) (p : List ℕ) (x : Lent) (b : List �
 
     module _ (room : 4104 ≤ length b) (d : Opened) (e : d ≡ openedOf (placed own mc) p) where
       -- the packet's own tests are left
-      opening : (z : Result)
-          → z ≡ first (packetTests (placed own mc) p) (refuse (held l x)) (served l busy (isOwn (placed own mc) (destination p)) (message p) (held l x))
-          → z ≡ Received
+      abbrev Work : Result
+      Work = served l busy (isOwn (placed own mc) (destination p)) (message p) (held l x)
+
+      opening : (z : Result) → z ≡ first (packetTests (placed own mc) p) (refuse (held l x)) Work → z ≡ Received
       opening z q =
           first-next _ _ _ _ _ _ _ (ap not (sym pl) ∙ v) (first-next _ _ _ _ _ _ _ (le-ltb _ _ room) (first-end _ _ _ q))
 
       pub receive-refused : (o : Outcome) (n : Refusal) → d ≡ Refused n → o ≡ unopenedOf d → Receives o Keep b x
       receive-refused o n q f = record {
         ends =
-            stopped l x b Received n o Keep (opening _ (refused-first own mc p (refuse (held l x)) _ (refuse (held l x) n) d n e q refl)) (f ∙ ap unopenedOf q) refl;
+            stopped l x b Received n o Keep
+            (opening _ (refused-first own mc p (refuse (held l x)) _ (refuse (held l x) n) d n e q refl)) (f ∙ ap unopenedOf q) refl;
       }
 
       pub receive-served : (due : Bool) (s : Spoken) (g : Regroup) (b₁ : List ℕ) (y : Lent) (o : Outcome) (b₂ : List ℕ) → d ≡ Message due

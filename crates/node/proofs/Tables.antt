@@ -93,7 +93,8 @@ module _ (r : Regroup) (g : Groups) (five : length (g .sets) ≡ 5) where
     regroup-remove e p q = rw e (table-without g x five (p, q))
 
 -- a usable board ---------------------------------------------------------------------------------------------------------------
-module _ (r : Records) (cs fs : List ℕ) (g : Groups) (vs bs : List ℕ) (c : Board) (checked : BoardChecked r cs fs g (lent vs bs (groupsOf g)) c) (u : c .usable ≡ true) where
+module _ (r : Records) (cs fs : List ℕ) (g : Groups) (vs bs : List ℕ) (c : Board)
+    (checked : BoardChecked r cs fs g (lent vs bs (groupsOf g)) c) (u : c .usable ≡ true) where
   abbrev T : Table
   T = tableOf r cs fs
 

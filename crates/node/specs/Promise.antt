@@ -96,10 +96,12 @@ pub record EndsAs (z : Result) (l : Layout) (b : List ℕ) (o : Outcome) (g : Re
   pub reply : b′ ≡ shown (z .ending) b
   pub holds : held l (withRegroup g y) ≡ z .state
 
-pub record ReceivedAs (l : Layout) (a : Place) (busy : ℕ) (p : List ℕ) (x : Lent) (b : List ℕ) (o : Outcome) (g : Regroup) (b′ : List ℕ) (y : Lent) : Type 0 where
+pub record ReceivedAs (l : Layout) (a : Place) (busy : ℕ) (p : List ℕ) (x : Lent) (b : List ℕ)
+    (o : Outcome) (g : Regroup) (b′ : List ℕ) (y : Lent) : Type 0 where
   pub ends : EndsAs (receivedOf l a busy (length b) p (held l x)) l b o g b′ y
 
-pub record CarriedAs (t : Table) (a : Place) (busy : ℕ) (p : List ℕ) (x : Lent) (b : List ℕ) (o : Outcome) (g : Regroup) (b′ : List ℕ) (y : Lent) : Type 0 where
+pub record CarriedAs (t : Table) (a : Place) (busy : ℕ) (p : List ℕ) (x : Lent) (b : List ℕ)
+    (o : Outcome) (g : Regroup) (b′ : List ℕ) (y : Lent) : Type 0 where
   pub ends : EndsAs (packet t a busy (length b) p (held (layout t) x)) (layout t) b o g b′ y
 
 -- the front of an array, as it is lent

@@ -18,7 +18,8 @@ ghost use Rattle.judging.specs.Judging.{lentLayout, SoundBoard};
 ghost use Rattle.changes.specs.Changes.{regrouped};
 ghost use Rattle.changes.specs.declared.Regroup.the-variants.{Keep};
 ghost use Rattle.wire.specs.Opening.{placed};
-ghost use Rattle.node.specs.Promise.{tableWith, packetLeft, packetLeftOf, unopenedOf, Closable, Closed, Fits, BoardChecked, BoardReady, ReceivedAs, CarriedAs};
+ghost use Rattle.node.specs.Promise.{tableWith, packetLeft, packetLeftOf, unopenedOf};
+ghost use Rattle.node.specs.Promise.{Closable, Closed, Fits, BoardChecked, BoardReady, ReceivedAs, CarriedAs};
 
 // How a call ended, and the group table that it leaves.
 pub struct Done {

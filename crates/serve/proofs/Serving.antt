@@ -1,5 +1,5 @@
 -- A message's work: its two ends, what is said to it, and what the definition gives. Assumes nothing.
-use mathlib.Core.Path.{_≡_, refl, sym, ap, _∙_}
+use mathlib.Core.Path.{_≡_, refl, ap, _∙_}
 use mathlib.Core.Bool.{Bool, true, false}
 use mathlib.Core.List.{List}
 use Prim.Native.Nat.{ℕ, _-_}
@@ -8,7 +8,7 @@ use lib.ListN.{length}
 use Rattle.bsmp.specs.Base.{byteAt}
 use Rattle.bsmp.specs.Board.{Layout, State}
 use Rattle.bsmp.specs.Codes.{commandOf, errorCode}
-use Rattle.bsmp.specs.Message.{Answer, say, tell, show, call, Line, line, judge, asked, after, spoken, said, stateAfter, carried, handled}
+use Rattle.bsmp.specs.Message.{Answer, say, tell, show, call, Line, line, judge, asked, spoken, said, stateAfter, carried, handled}
 use Rattle.bsmp.specs.Store.{Lent, held}
 use Rattle.bsmp.specs.declared.WireError.{WireError}
 use Rattle.bsmp.specs.declared.Command.{Command}

@@ -18,7 +18,7 @@ use Rattle.bsmp.specs.declared.Command.the-variants.{RunFunction}
 use Rattle.bsmp.specs.declared.Check.{Check}
 use Rattle.bsmp.specs.declared.Check.the-variants.{Pass, Fail}
 use Rattle.lists.proofs.Put.{put-nil, mid-rest}
-use Rattle.parts.specs.Parts.{layoutOf, Passed}
+use Rattle.parts.specs.Parts.{Passed}
 use Rattle.judging.proofs.Judging.{message-long, message-passed}
 use Rattle.answers.specs.Answers.{spokenOf, Spoke}
 use Rattle.answers.specs.declared.Spoken.{Spoken}
@@ -70,8 +70,9 @@ module _ (v : Check) (m : List ℕ) where
   long-enough l gs busy q = record {
     whole = λ e. message-long l gs busy m v q e;
     names = λ e f.
-        let p : Passed l gs (midOf 3 (length m - 3) m) RunFunction = message-passed l gs busy m v RunFunction q e (sym f) in
-        let n : 0 < length (midOf 3 (length m - 3) m) = run-needs (l .sizes) (l .writable) (l .curves) (l .functions) gs (midOf 3 (length m - 3) m) RunFunction refl p in
-        let d : length (midOf 3 (length m - 3) m) ≡ length m - 3 = ap length (mid-rest 3 m) ∙ length-drop 3 m in
+        let rest : List ℕ = midOf 3 (length m - 3) m in
+        let p : Passed l gs rest RunFunction = message-passed l gs busy m v RunFunction q e (sym f) in
+        let n : 0 < length rest = run-needs (l .sizes) (l .writable) (l .curves) (l .functions) gs rest RunFunction refl p in
+        let d : length rest ≡ length m - 3 = ap length (mid-rest 3 m) ∙ length-drop 3 m in
         omega arith;
   }

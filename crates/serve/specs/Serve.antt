@@ -38,6 +38,7 @@ pub record LongEnough (v : Check) (m : List ℕ) : Type 0 where
   pub names : v ≡ Pass → commandOf (byteAt m 0) ≡ RunFunction → 3 < length m
 
 -- what the work of a message leaves: what is said stands in the buffer from `at` on, and y, regrouped, holds what the definition gives
-pub record ServedAs (due : Bool) (l : Layout) (busy : ℕ) (m : List ℕ) (x : Lent) (r : List ℕ) (at : ℕ) (s : Spoken) (g : Regroup) (r′ : List ℕ) (y : Lent) : Type 0 where
+pub record ServedAs (due : Bool) (l : Layout) (busy : ℕ) (m : List ℕ) (x : Lent) (r : List ℕ) (at : ℕ)
+    (s : Spoken) (g : Regroup) (r′ : List ℕ) (y : Lent) : Type 0 where
   pub spoke : Spoke due (handled l busy m (held l x) .says) r at s r′
   pub holds : held l (withRegroup g y) ≡ handled l busy m (held l x) .state

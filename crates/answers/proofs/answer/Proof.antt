@@ -2,7 +2,8 @@
 use borrow.Author.Needs.{needs}
 use Rattle.bsmp.specs.Board.{members, writableGroup}
 use Rattle.bsmp.specs.Message.{variableList, groupList, curveList, functionList, line, spoken}
-use Rattle.answers.proofs.Answers.{read-some-needs, read-known-needs, second-some-needs, second-known-needs, show-needs, group-read-needs, block-read-needs, run-needs}
+use Rattle.answers.proofs.Answers.{read-some-needs, read-known-needs, second-some-needs, second-known-needs}
+use Rattle.answers.proofs.Answers.{show-needs, group-read-needs, block-read-needs, run-needs}
 use Rattle.answers.proofs.Answers.{answer-told, answer-done, answer-run}
 use Rattle.answers.proofs.answer.Statement.{statement}
 use Rattle.answers.proofs.answer.Tie as tie

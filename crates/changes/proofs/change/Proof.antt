@@ -1,8 +1,10 @@
 -- `change` meets its contract: six commands write to a store, two regroup, the others change nothing. Assumes nothing.
 use borrow.Author.Needs.{needs}
 use Rattle.bsmp.specs.Message.{line}
-use Rattle.changes.proofs.Changes.{write-needs, mask-needs, mask-operation, write-read-needs, group-write-needs, group-mask-needs, group-mask-operation, make-needs, block-needs}
-use Rattle.changes.proofs.Changes.{written, masked, written-read, group-written, group-masked, group-made, groups-removed, block-written, nothing-changed}
+use Rattle.changes.proofs.Changes.{write-needs, mask-needs, mask-operation, write-read-needs, make-needs, block-needs}
+use Rattle.changes.proofs.Changes.{group-write-needs, group-mask-needs, group-mask-operation}
+use Rattle.changes.proofs.Changes.{written, masked, written-read, group-written, group-masked, block-written}
+use Rattle.changes.proofs.Changes.{group-made, groups-removed, nothing-changed}
 use Rattle.changes.proofs.change.Statement.{statement}
 use Rattle.changes.proofs.change.Tie as tie
 

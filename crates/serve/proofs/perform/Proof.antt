@@ -9,6 +9,7 @@ pub perform-spec : {M : Type 1} → statement M
 perform-spec =
     tie.close
     (tie.spec
-    (λ c κs. search needs) (λ c. search needs) (λ c. search (message-some, needs)) (λ c κs. search needs) (λ c. search (message-long, needs)) (λ c. search (message-long, needs)) (λ c. search needs)
+    (λ c κs. search needs) (λ c. search needs) (λ c. search (message-some, needs)) (λ c κs. search needs)
+    (λ c. search (message-long, needs)) (λ c. search (message-long, needs)) (λ c. search needs)
     (λ c κs. (search needs, search (message-passed, needs))) (λ c. search needs) (λ c. search needs) (λ c. search needs)
     (λ c. search (performed-pass, needs)) (λ c. search (performed-fail, needs)))

@@ -9,6 +9,8 @@ pub respond-spec : {M : Type 1} → statement M
 respond-spec =
     tie.close
     (tie.spec
-    (λ c. search needs) (λ c. search (judged-some, needs)) (λ c κs. search needs) (λ c. search (judged-long, needs)) (λ c. search (judged-long, needs)) (λ c. search needs)
-    (λ c κs. (search needs, (search (judged-passed, needs), search needs))) (λ c. search needs) (λ c κs. search needs) (λ c κs. search needs) (λ c. search needs)
+    (λ c. search needs) (λ c. search (judged-some, needs)) (λ c κs. search needs)
+    (λ c. search (judged-long, needs)) (λ c. search (judged-long, needs)) (λ c. search needs)
+    (λ c κs. (search needs, (search (judged-passed, needs), search needs)))
+    (λ c. search needs) (λ c κs. search needs) (λ c κs. search needs) (λ c. search needs)
     (λ c. search (respond-pass, needs)) (λ c. search (respond-fail, needs)))
