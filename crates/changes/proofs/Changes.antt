@@ -5,7 +5,7 @@ use Prim.Native.Nat.{ℕ, _<_}
 use lib.ListN.{length, drop, set, getD}
 use Rattle.bsmp.specs.Base.{cut, byteAt}
 use Rattle.bsmp.specs.Codes.{operationOf}
-use Rattle.bsmp.specs.Board.{Layout, sizeOf, members}
+use Rattle.bsmp.specs.Board.{Layout, sizeOf, members, withValues, withBlocks, withGroups}
 use Rattle.bsmp.specs.Message.{nothing, edit, fill, regroup, variableAt, groupAt, line, edited, filled, after}
 use Rattle.bsmp.specs.Store.{Lent, held}
 use Rattle.bsmp.specs.declared.VariableNumber.{VariableNumber}
@@ -74,17 +74,17 @@ module _ (l : Layout) (x : Lent) where
   values-edited : (op : Operation) (is : List VariableNumber) (ps : List (List ℕ)) (vs : List ℕ)
       → cut (l .sizes) vs ≡ edited op is ps (cut (l .sizes) (x .values)) → ChangedBy l x (edit op is ps) Keep (lent vs (x .curves) (x .groups))
   unfolding after
-  values-edited op is ps vs h = record { holds = ap (λ v. record { values = v; blocks = held l x .blocks; groups = x .groups }) h }
+  values-edited op is ps vs h = record { holds = ap (withValues (held l x)) h }
 
   block-filled : (k : ℕ) (d bs : List ℕ)
       → blocksIn (l .curves) bs ≡ set (blocksIn (l .curves) (x .curves)) k (filled d (getD (blocksIn (l .curves) (x .curves)) k []))
       → ChangedBy l x (fill k d) Keep (lent (x .values) bs (x .groups))
   unfolding after
-  block-filled k d bs h = record { holds = ap (λ b. record { values = held l x .values; blocks = b; groups = x .groups }) h }
+  block-filled k d bs h = record { holds = ap (withBlocks (held l x)) h }
 
   groups-made : (r : Regroup) (gs : List ℕ) → regrouped r (x .groups) ≡ gs → ChangedBy l x (regroup gs) r x
   unfolding after
-  groups-made r gs h = record { holds = ap (λ g. record { values = held l x .values; blocks = held l x .blocks; groups = g }) h }
+  groups-made r gs h = record { holds = ap (withGroups (held l x)) h }
 
   module _ (p : List ℕ) (k : Command) where
     abbrev Changed : Regroup → Lent → Type 0

@@ -6,7 +6,7 @@ use Prim.Native.Nat.{ℕ, _-_}
 use borrow.Rule.Slice.PartMut.{midOf}
 use lib.ListN.{length}
 use Rattle.bsmp.specs.Base.{byteAt}
-use Rattle.bsmp.specs.Board.{Layout, State}
+use Rattle.bsmp.specs.Board.{Layout, State, withValues, withBlocks}
 use Rattle.bsmp.specs.Codes.{commandOf, errorCode}
 use Rattle.bsmp.specs.Message.{Answer, say, tell, show, call, Line, line, judge, asked, spoken, said, stateAfter, carried, handled}
 use Rattle.bsmp.specs.Store.{Lent, held}
@@ -57,8 +57,8 @@ module _ (l : Layout) (gs m : List ℕ) (v : Check) (s : State) (r : List ℕ) (
 spoken-alike : (a : Answer) (s s′ : State) → s .values ≡ s′ .values → s .blocks ≡ s′ .blocks → spoken a s ≡ spoken a s′
 unfolding spoken
 spoken-alike (say c p) s s′ e f = refl
-spoken-alike (tell c is) s s′ e f = ap (λ v. spoken (tell c is) (record { values = v; blocks = s .blocks; groups = s .groups })) e
-spoken-alike (show c front k) s s′ e f = ap (λ b. spoken (show c front k) (record { values = s .values; blocks = b; groups = s .groups })) f
+spoken-alike (tell c is) s s′ e f = ap (λ v. spoken (tell c is) (withValues s v)) e
+spoken-alike (show c front k) s s′ e f = ap (λ b. spoken (show c front k) (withBlocks s b)) f
 spoken-alike (call g i) s s′ e f = refl
 
 said-alike : (l : Line) (v : Check) (s s′ : State) → s .values ≡ s′ .values → s .blocks ≡ s′ .blocks → said l v s ≡ said l v s′
