@@ -98,18 +98,21 @@ module _ (l : Layout) (x : Lent) where
       abbrev Values : List (List ℕ)
       Values = cut (l .sizes) (x .values)
 
-      pub written : k ≡ WriteVariable → cut (l .sizes) vs ≡ edited Replace (variableAt p 0 ∷ []) (drop 1 p ∷ []) Values → Changed Keep With
-      unfolding line
-      written e h = rw e (values-edited _ _ _ vs h)
+      -- one variable, named first; r as it comes with the values
+      abbrev Edited : Regroup → Operation → ℕ → Type 0
+      Edited r op n = (r ≡ Keep) × (cut (l .sizes) vs ≡ edited op (variableAt p 0 ∷ []) (drop n p ∷ []) Values)
 
-      pub masked : (op : Operation) → k ≡ MaskVariable → op ≡ operationOf (byteAt p 1)
-          → cut (l .sizes) vs ≡ edited op (variableAt p 0 ∷ []) (drop 2 p ∷ []) Values → Changed Keep With
+      pub written : (r : Regroup) → k ≡ WriteVariable → Edited r Replace 1 → Changed r With
       unfolding line
-      masked op e o h = rw (e, ← o) (values-edited op _ _ vs h)
+      written r e h = rw (e, h .0) (values-edited _ _ _ vs (h .1))
 
-      pub written-read : k ≡ WriteRead → cut (l .sizes) vs ≡ edited Replace (variableAt p 0 ∷ []) (drop 2 p ∷ []) Values → Changed Keep With
+      pub masked : (r : Regroup) (op : Operation) → k ≡ MaskVariable → op ≡ operationOf (byteAt p 1) → Edited r op 2 → Changed r With
       unfolding line
-      written-read e h = rw e (values-edited _ _ _ vs h)
+      masked r op e o h = rw (e, ← o, h .0) (values-edited op _ _ vs (h .1))
+
+      pub written-read : (r : Regroup) → k ≡ WriteRead → Edited r Replace 2 → Changed r With
+      unfolding line
+      written-read r e h = rw (e, h .0) (values-edited _ _ _ vs (h .1))
 
       abbrev Members : List VariableNumber
       Members = members (variablesOnly (l .sizes) (l .writable)) (x .groups) (groupAt p 0)

@@ -1,17 +1,43 @@
 // What a command that passed its tests changes in the two stores, and what it makes of the made groups.
 use bsmp::Command;
 use bsmp::Operation;
-ghost use Rattle.bsmp.specs.Message.{line};
+ghost use mathlib.Core.Path.{_≡_};
+ghost use mathlib.Core.List.{[], _∷_};
+ghost use lib.ListN.{drop};
+ghost use Rattle.bsmp.specs.Base.{cut};
+ghost use Rattle.bsmp.specs.Message.{variableAt, line, edited};
+ghost use Rattle.sets.specs.Promises.{Sound};
 ghost use Rattle.parts.specs.Parts.{Passed};
 ghost use Rattle.records.specs.Lending.{lent};
 ghost use Rattle.judging.specs.Judging.{lentLayout, SoundBoard};
+ghost use Rattle.variables.specs.Fits.{OneFits};
 ghost use Rattle.changes.specs.Changes.{ChangedBy};
+ghost use Rattle.changes.specs.declared.Regroup.the-variants.{Keep};
 
 // What a message makes of the made groups.
 pub enum Regroup {
     Keep,
     Make(u64),
     Remove,
+}
+
+// The variable named first is changed by the bytes behind the front; the made groups stay.
+fn change_variable(
+    sizes: &[u8],
+    values: &mut [u8],
+    op: Operation,
+    payload: &[u8],
+    front: usize,
+) -> Regroup
+    requires { ⌜ Sound (now sizes) (now values) ⌝ }
+    requires { ⌜ OneFits (now sizes) (now payload) front ⌝ }
+    ensures { λ r. let sizes = now (sizes .entry) in
+        let bytes = drop front (now (payload .entry)) in
+        let named = variableAt (now (payload .entry)) 0 in
+        ⌜ (r ≡ Keep) × (cut sizes (now (values .exit)) ≡ edited op (named ∷ []) (bytes ∷ []) (cut sizes (now (values .entry)))) ⌝ }
+{
+    variables::change(sizes, values, op, payload, front);
+    Regroup::Keep
 }
 
 // Carries out a command that passed its tests: changes the two stores, and tells what becomes of the made groups.
@@ -34,28 +60,21 @@ pub fn change(
         ⌜ ChangedBy l x (line l (x .groups) (now (payload .entry)) command .change) r y ⌝ }
 {
     match command {
-        Command::WriteVariable => {
-            variables::change(sizes, values, Operation::Replace, payload, 1);
-            Regroup::Keep
-        }
+        Command::WriteVariable => change_variable(sizes, values, Operation::Replace, payload, 1),
         Command::WriteGroup => {
             let op = Operation::Replace;
             groups::change(sizes, writable, groups, values, op, payload, 1);
             Regroup::Keep
         }
         Command::MaskVariable => {
-            variables::change(sizes, values, Operation::of(payload[1]), payload, 2);
-            Regroup::Keep
+            change_variable(sizes, values, Operation::of(payload[1]), payload, 2)
         }
         Command::MaskGroup => {
             let op = Operation::of(payload[1]);
             groups::change(sizes, writable, groups, values, op, payload, 2);
             Regroup::Keep
         }
-        Command::WriteRead => {
-            variables::change(sizes, values, Operation::Replace, payload, 2);
-            Regroup::Keep
-        }
+        Command::WriteRead => change_variable(sizes, values, Operation::Replace, payload, 2),
         Command::MakeGroup => Regroup::Make(sets::set_of(payload)),
         Command::RemoveGroups => Regroup::Remove,
         Command::WriteBlock => {
