@@ -76,6 +76,14 @@ pub closable : (due : Bool) (l : Layout) (busy : ℕ) (m : List ℕ) (x : Lent) 
     → ServedAs due l busy m x b 4 s g b₁ y → 4104 ≤ length b → length b₁ ≡ length b → Closable s b₁
 closable due l busy m x b s g b₁ y h room e = record { short = said-short due _ b 4 s b₁ (h .spoke); room = omega arith }
 
+-- the message of a packet, served and closed
+pub answer-ends : (due : Bool) (l : Layout) (busy : ℕ) (m : List ℕ) (x : Lent) (b : List ℕ) (s : Spoken) (g : Regroup) (b₁ : List ℕ) (y : Lent) (o : Outcome) (b₂ : List ℕ)
+    → 4104 ≤ length b → ServedAs due l busy m x b 4 s g b₁ y → Closed due s b₁ o b₂ → EndsAs (served l busy due m (held l x)) l b o g b₂ y
+unfolding served
+answer-ends due l busy m x b s g b₁ y o b₂ room h k =
+    let w = ended b s b₁ o b₂ room due (handled l busy m (held l x) .says) (h .spoke) k in
+    record { outcome = w .0; reply = w .1; holds = h .holds }
+
 -- a refusal changes nothing of what is lent
 pub stopped : (l : Layout) (x : Lent) (b : List ℕ) (z : Result) (n : Refusal) (o : Outcome) (g : Regroup)
     → refuse (held l x) n ≡ z → o ≡ O.Refused n → g ≡ Keep → EndsAs z l b o g b x
@@ -119,17 +127,12 @@ module _ (l : Layout) (own mc busy : ℕ) (p : List ℕ) (x : Lent) (b : List �
             (opening _ (refused-first own mc p (refuse (held l x)) _ (refuse (held l x) n) d n e q refl)) (f ∙ ap unopenedOf q) refl;
       }
 
-      pub receive-served : (due : Bool) (s : Spoken) (g : Regroup) (b₁ : List ℕ) (y : Lent) (o : Outcome) (b₂ : List ℕ) → d ≡ Message due
-          → ServedAs due l busy (midOf 1 (length p - 1 - 1) p) x b 4 s g b₁ y → Closed due s b₁ o b₂ → Receives o g b₂ y
-      unfolding served
-      receive-served due s g b₁ y o b₂ q h k =
-          let m : List ℕ = midOf 1 (length p - 1 - 1) p in
-          let w = ended b s b₁ o b₂ room due (handled l busy m (held l x) .says) (h .spoke) k in
-          let r : EndsAs (served l busy due m (held l x)) l b o g b₂ y = record { outcome = w .0; reply = w .1; holds = h .holds } in
-          record {
-            ends =
-                subst (λ z. EndsAs z l b o g b₂ y)
-                (opening _
-                (message-first own mc p (refuse (held l x)) _ _ d due e q
-                (ap₂ (λ t n. served l busy t n (held l x)) (message-due own mc p d due e q) (message-lent p)))) r;
-          }
+      pub receive-answered : (due : Bool) (o : Outcome) (g : Regroup) (b₂ : List ℕ) (y : Lent) → d ≡ Message due
+          → EndsAs (served l busy due (midOf 1 (length p - 1 - 1) p) (held l x)) l b o g b₂ y → Receives o g b₂ y
+      receive-answered due o g b₂ y q r = record {
+        ends =
+            subst (λ z. EndsAs z l b o g b₂ y)
+            (opening _
+            (message-first own mc p (refuse (held l x)) _ _ d due e q
+            (ap₂ (λ t n. served l busy t n (held l x)) (message-due own mc p d due e q) (message-lent p)))) r;
+      }

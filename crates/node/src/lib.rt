@@ -8,9 +8,10 @@ use records::Groups;
 use records::Records;
 use wire::Opened;
 ghost use mathlib.Core.Path.{_≡_};
+ghost use Prim.Native.Nat.{_≤_};
 ghost use lib.ListN.{length};
 ghost use Rattle.bsmp.specs.Board.{layout};
-ghost use Rattle.bsmp.specs.Packet.{packet};
+ghost use Rattle.bsmp.specs.Packet.{served, packet};
 ghost use Rattle.bsmp.specs.Store.{held};
 ghost use Rattle.bsmp.specs.declared.Outcome.the-variants as O;
 ghost use Rattle.records.specs.Lending.{groupsOf, tableOf, lent};
@@ -19,7 +20,7 @@ ghost use Rattle.changes.specs.Changes.{regrouped};
 ghost use Rattle.changes.specs.declared.Regroup.the-variants.{Keep};
 ghost use Rattle.wire.specs.Opening.{placed};
 ghost use Rattle.node.specs.Promise.{tableWith, packetLeft, packetLeftOf, unopenedOf};
-ghost use Rattle.node.specs.Promise.{Closable, Closed, Fits, BoardChecked, BoardReady, ReceivedAs, CarriedAs};
+ghost use Rattle.node.specs.Promise.{Closable, Closed, EndsAs, Fits, BoardChecked, BoardReady, ReceivedAs, CarriedAs};
 
 // How a call ended, and the group table that it leaves.
 pub struct Done {
@@ -81,6 +82,48 @@ fn close(due: bool, said: Spoken, reply: &mut [u8]) -> Outcome
     }
 }
 
+// The message of a packet, served and closed in its packet.
+fn answer(
+    due: bool,
+    sizes: &[u8],
+    writable: u64,
+    curves: &[u32],
+    functions: &[u8],
+    groups: &[u64],
+    values: &mut [u8],
+    blocks: &mut [u8],
+    message: &[u8],
+    busy: u64,
+    reply: &mut [u8],
+) -> Received
+    requires { ⌜ SoundBoard (lentLayout (now sizes) writable (now curves) (now functions)) (lent (now values) (now blocks) (now groups)) ⌝ }
+    requires { ⌜ 4104 ≤ length (now reply) ⌝ }
+    ensures { λ r. let l = lentLayout (now (sizes .entry)) writable (now (curves .entry)) (now (functions .entry)) in
+        let x = lent (now (values .entry)) (now (blocks .entry)) (now (groups .entry)) in
+        let y = lent (now (values .exit)) (now (blocks .exit)) (now (groups .entry)) in
+        let result = served l busy due (now (message .entry)) (held l x) in
+        ⌜ EndsAs result l (now (reply .entry)) (r .outcome) (r .regroup) (now (reply .exit)) y ⌝ }
+{
+    let served = serve::serve(
+        due,
+        sizes,
+        writable,
+        curves,
+        functions,
+        groups,
+        values,
+        blocks,
+        message,
+        busy,
+        reply,
+        4,
+    );
+    let said = served.said;
+    let regroup = served.regroup;
+    let outcome = close(due, said, reply);
+    Received { outcome, regroup }
+}
+
 // A packet on a usable board, over what is lent.
 fn receive(
     sizes: &[u8],
@@ -116,7 +159,7 @@ fn receive(
         return Received { outcome, regroup };
     };
     let end = request.len() - 1;
-    let served = serve::serve(
+    answer(
         due,
         sizes,
         writable,
@@ -128,12 +171,7 @@ fn receive(
         &request[1..end],
         busy,
         reply,
-        4,
-    );
-    let said = served.said;
-    let regroup = served.regroup;
-    let outcome = close(due, said, reply);
-    Received { outcome, regroup }
+    )
 }
 
 // Refusal 1, of records by columns. That the columns are 64 long and the places of a group table 5 is promised with it, for who lends their fronts.

@@ -2,7 +2,8 @@
 use mathlib.Core.Path.{_≡_, refl, ap, _∙_}
 use mathlib.Core.Bool.{Bool, true, false}
 use mathlib.Core.List.{List}
-use Prim.Native.Nat.{ℕ, _-_}
+use Prim.Native.Nat.{ℕ, _-_, _≤_, _<_}
+use native.Mathlib.Omega.{arith}
 use borrow.Rule.Slice.PartMut.{midOf}
 use lib.ListN.{length}
 use Rattle.bsmp.specs.Base.{byteAt}
@@ -15,9 +16,11 @@ use Rattle.bsmp.specs.declared.Command.{Command}
 use Rattle.bsmp.specs.declared.Check.{Check}
 use Rattle.bsmp.specs.declared.Check.the-variants.{Pass, Fail}
 use Rattle.lists.proofs.Put.{mid-rest}
+use Rattle.parts.specs.Parts.{Passed}
 use Rattle.records.specs.Lending.{lent}
 use Rattle.variables.proofs.One.{sound-kept}
 use Rattle.judging.specs.Judging.{SoundBoard}
+use Rattle.judging.proofs.Judging.{message-long, message-passed}
 use Rattle.changes.specs.Changes.{withRegroup, ChangedBy}
 use Rattle.changes.specs.declared.Regroup.{Regroup}
 use Rattle.changes.specs.declared.Regroup.the-variants.{Keep}
@@ -25,18 +28,32 @@ use Rattle.answers.specs.Answers.{Spoke}
 use Rattle.answers.specs.declared.Spoken.{Spoken}
 use Rattle.answers.specs.declared.Spoken.the-variants.{Reply}
 use Rattle.answers.proofs.Answers.{done-said}
-use Rattle.serve.specs.Serve.{PerformedAs, Unanswered, LongEnough, ServedAs}
+use Rattle.serve.specs.Serve.{PassedWhole, PerformedAs, Unanswered, LongEnough, ServedAs}
 use Rattle.serve.proofs.Silence.{unheard, long-enough}
+
+-- a message that passed, as its reading and its change ask it
+module _ (l : Layout) (gs m : List ℕ) where
+  pub passed-whole : (busy : ℕ) (v : Check) → v ≡ judge l gs busy m → v ≡ Pass → PassedWhole l gs m
+  passed-whole busy v q e = record { whole = message-long l gs busy m v q e; passed = message-passed l gs busy m v _ q e refl }
+
+  pub whole-some : PassedWhole l gs m → 0 < length m
+  whole-some h = omega (arith, h .whole)
+
+  pub whole-passed : (k : Command) → PassedWhole l gs m → k ≡ commandOf (byteAt m 0) → Passed l gs (midOf 3 (length m - 3) m) k
+  whole-passed k h e = rw e (h .passed)
+
+pub carried-out : (l : Layout) (x : Lent) (m : List ℕ) (k : Command) (g : Regroup) (y : Lent) → k ≡ commandOf (byteAt m 0)
+    → ChangedBy l x (line l (x .groups) (midOf 3 (length m - 3) m) k .change) g y → ChangedBy l x (asked l (x .groups) m .change) g y
+carried-out l x m k g y e h = rw (← e, ← mid-rest 3 m) h
 
 -- a message judged and carried out
 module _ (l : Layout) (busy : ℕ) (m : List ℕ) (x : Lent) (v : Check) (q : v ≡ judge l (x .groups) busy m) where
   performed : (g : Regroup) (y : Lent) → held l (withRegroup g y) ≡ stateAfter (asked l (x .groups) m) v (held l x) → PerformedAs l busy m x v g y
   performed g y h = record { check = q; judgement = record { marks = busy; judged = q }; holds = rw q at h }
 
-  pub performed-pass : (k : Command) (g : Regroup) (y : Lent) → v ≡ Pass → k ≡ commandOf (byteAt m 0)
-      → ChangedBy l x (line l (x .groups) (midOf 3 (length m - 3) m) k .change) g y → PerformedAs l busy m x v g y
+  pub performed-pass : (g : Regroup) (y : Lent) → v ≡ Pass → ChangedBy l x (asked l (x .groups) m .change) g y → PerformedAs l busy m x v g y
   unfolding stateAfter
-  performed-pass k g y e f h = performed g y (rw (e, ← f, ← mid-rest 3 m) (h .holds))
+  performed-pass g y e h = performed g y (rw e (h .holds))
 
   pub performed-fail : (e : WireError) → v ≡ Fail e → PerformedAs l busy m x v Keep x
   unfolding stateAfter

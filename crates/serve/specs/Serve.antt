@@ -2,7 +2,8 @@
 use mathlib.Core.Path.{_≡_}
 use mathlib.Core.Bool.{Bool, false}
 use mathlib.Core.List.{List}
-use Prim.Native.Nat.{ℕ, _≤_, _<_}
+use Prim.Native.Nat.{ℕ, _-_, _≤_, _<_}
+use borrow.Rule.Slice.PartMut.{midOf}
 use lib.ListN.{length, drop}
 use Rattle.bsmp.specs.Base.{byteAt}
 use Rattle.bsmp.specs.Board.{Layout, State}
@@ -13,11 +14,17 @@ use Rattle.bsmp.specs.declared.Command.{Command}
 use Rattle.bsmp.specs.declared.Command.the-variants.{RunFunction}
 use Rattle.bsmp.specs.declared.Check.{Check}
 use Rattle.bsmp.specs.declared.Check.the-variants.{Pass}
+use Rattle.parts.specs.Parts.{Passed}
 use Rattle.judging.specs.Judging.{Judgement}
 use Rattle.changes.specs.Changes.{withRegroup}
 use Rattle.changes.specs.declared.Regroup.{Regroup}
 use Rattle.answers.specs.Answers.{spokenOf, Spoke}
 use Rattle.answers.specs.declared.Spoken.{Spoken}
+
+-- a message that passed its tests: it has a command, and passed that command's
+pub record PassedWhole (l : Layout) (gs m : List ℕ) : Type 0 where
+  pub whole : 3 ≤ length m
+  pub passed : Passed l gs (midOf 3 (length m - 3) m) (commandOf (byteAt m 0))
 
 -- a message judged, v, and carried out: x was lent, y is left of it, and g becomes of the made groups
 pub record PerformedAs (l : Layout) (busy : ℕ) (m : List ℕ) (x : Lent) (v : Check) (g : Regroup) (y : Lent) : Type 0 where

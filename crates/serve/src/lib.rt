@@ -13,7 +13,8 @@ ghost use Rattle.bsmp.specs.declared.Command.the-variants.{RunFunction};
 ghost use Rattle.records.specs.Lending.{lent};
 ghost use Rattle.judging.specs.Judging.{lentLayout, SoundBoard, Judgement};
 ghost use Rattle.answers.specs.Answers.{Spoke};
-ghost use Rattle.serve.specs.Serve.{PerformedAs, Quiet, Unanswered, LongEnough, ServedAs};
+ghost use Rattle.changes.specs.Changes.{ChangedBy};
+ghost use Rattle.serve.specs.Serve.{PassedWhole, PerformedAs, Quiet, Unanswered, LongEnough, ServedAs};
 
 // How a message was judged, and what it makes of the made groups.
 struct Performed {
@@ -25,6 +26,37 @@ struct Performed {
 pub struct Served {
     pub said: Spoken,
     pub regroup: Regroup,
+}
+
+// Carries out a message that passed its tests.
+fn carry_out(
+    sizes: &[u8],
+    writable: u64,
+    curves: &[u32],
+    functions: &[u8],
+    groups: &[u64],
+    values: &mut [u8],
+    blocks: &mut [u8],
+    message: &[u8],
+) -> Regroup
+    requires { ⌜ SoundBoard (lentLayout (now sizes) writable (now curves) (now functions)) (lent (now values) (now blocks) (now groups)) ⌝ }
+    requires { ⌜ PassedWhole (lentLayout (now sizes) writable (now curves) (now functions)) (now groups) (now message) ⌝ }
+    ensures { λ r. let l = lentLayout (now (sizes .entry)) writable (now (curves .entry)) (now (functions .entry)) in
+        let x = lent (now (values .entry)) (now (blocks .entry)) (now (groups .entry)) in
+        let y = lent (now (values .exit)) (now (blocks .exit)) (now (groups .entry)) in
+        ⌜ ChangedBy l x (asked l (x .groups) (now (message .entry)) .change) r y ⌝ }
+{
+    changes::change(
+        Command::of(message[0]),
+        sizes,
+        writable,
+        curves,
+        functions,
+        groups,
+        values,
+        blocks,
+        &message[3..],
+    )
 }
 
 // Judges a message and carries it out.
@@ -48,8 +80,7 @@ fn perform(
     let v = judging::judge(sizes, writable, curves, functions, groups, message, busy);
     match v {
         Check::Pass => {
-            let regroup = changes::change(
-                Command::of(message[0]),
+            let regroup = carry_out(
                 sizes,
                 writable,
                 curves,
@@ -57,7 +88,7 @@ fn perform(
                 groups,
                 values,
                 blocks,
-                &message[3..],
+                message,
             );
             Performed { check: v, regroup }
         }

@@ -1,7 +1,7 @@
 -- `receive` meets its contract. Assumes nothing.
 use borrow.Author.Needs.{needs}
 use Rattle.wire.proofs.Opening.{message-end, message-start}
-use Rattle.node.proofs.Receiving.{closable, receive-place, receive-short, receive-refused, receive-served}
+use Rattle.node.proofs.Receiving.{receive-place, receive-short, receive-refused, receive-answered}
 use Rattle.node.proofs.receive.Statement.{statement}
 use Rattle.node.proofs.receive.Tie as tie
 
@@ -12,4 +12,4 @@ receive-spec =
     (λ c κs. search needs) (λ c κs. search needs) (λ c. search (receive-place, needs)) (λ c κs. search needs) (λ c. search (receive-short, needs))
     (λ c κs. search needs) (λ c. search needs) (λ c. search needs) (λ c κs. search needs) (λ c. search (receive-refused, needs))
     (λ c. search (message-end, needs)) (λ c. search (message-start, needs)) (λ c. search (message-start, needs)) (λ c. search needs)
-    (λ c κs. search needs) (λ c κs. search (closable, needs)) (λ c. search needs) (λ c. search needs) (λ c. search needs) (λ c. search (receive-served, needs)))
+    (λ c κs. search needs) (λ c. search needs) (λ c. search needs) (λ c. search needs) (λ c. search (receive-answered, needs)))
