@@ -352,10 +352,7 @@ fn a_failed_function_s_output_counts_for_nothing() {
                 reply.len(),
             )
         };
-        assert_eq!(
-            (told.kind, told.length),
-            (cruachvel::raw::PlainOutcome::REPLY, 6)
-        );
+        assert_eq!((told.kind, told.length), (cruachvel::raw::Told::REPLY, 6));
         assert_eq!(reply[..7], [0x00, 0x53, 0x00, 0x01, 0xBB, 0xF1, FILLING]);
     }
 }
