@@ -13,13 +13,14 @@ use lib.Seq.{take-at}
 use borrow.Author.Tests.{eq-eqb, eqb-false, le-ltb, lt-ltb, lt-leb, leb-true}
 use Rattle.bsmp.specs.Base.{sum, some, byteAt, word}
 use Rattle.bsmp.specs.Board.{variable, Table, layout, State, withGroups, setOf, variableRules, usable, usableVariables, faults}
-use Rattle.bsmp.specs.Message.{line, messageOf, check, judge, spoken, said, stateAfter, after, carried, handled}
+use Rattle.bsmp.specs.Message.{line, messageOf, check, judge, asked, spoken, said, stateAfter, after, carried, handled}
 use Rattle.bsmp.specs.Codes.{commandOf}
-use Rattle.bsmp.specs.Packet.{Place, Ending, reply, silence, refuse, usablePlace, checksum, packed, frame, ends, placeTests, packetTests, served, packet, message}
+use Rattle.bsmp.specs.Packet.{Place, Ending, reply, Result, refuse, usablePlace, checksum, packed, frame, ends, placeTests, packetTests, served, packet, message}
 use Rattle.bsmp.specs.Number.{inRange, recordOf, readingTests, Reading, is, reading, bytesOf, isBig, kindAt}
-use Rattle.bsmp.specs.Apart.{Event, arrives, answerOf, later}
+use Rattle.bsmp.specs.Apart.{Event, answerOf, later}
 use Rattle.bsmp.specs.declared.VariableNumber.{VariableNumber}
 use Rattle.bsmp.specs.declared.Variable.{Variable}
+use Rattle.bsmp.specs.declared.Check.the-variants.{Pass}
 use Rattle.bsmp.proofs.Bools.{and-true, all-at}
 use Rattle.bsmp.proofs.Lists.{sum-append}
 use Rattle.bsmp.proofs.Chain.{clear, first-clear}
@@ -70,57 +71,92 @@ versionAnswer = reply (frame 0x01 (2 ∷ 20 ∷ 0 ∷ []))
 abbrev codeOf : Ending → ℕ
 codeOf e = byteAt (answerOf e) 1
 
-module _ (t : Table) (a : Place) (busy room : ℕ) (s : State) (r : Ready t a room s) where
-  version-answered : packet t a busy room (packed (a .own) (messageOf 0x00 [])) s ≡ record { ending = versionAnswer; state = s }
-  unfolding served handled carried judge check line said stateAfter spoken after ends commandOf Rattle.bsmp.specs.Base.first
-  version-answered = unicast t a busy room (messageOf 0x00 []) s r (lit≤ tt)
+-- a message that comes to such a board in a packet to its own address, and that no error stops: the laws below ask of a wrong node only
+-- what it does with these, so one that is wrong on good packets alone is shut out
+pub record Accepted (t : Table) (busy : ℕ) (s : State) (m : List ℕ) : Type 0 where
+  pub fits : length m ≤ 4102
+  pub passes : judge (layout t) (s .groups) busy m ≡ Pass
 
-  groups-removed : packet t a busy room (packed (a .own) (messageOf 0x32 [])) s
-      ≡ record { ending = reply (frame 0xE0 []); state = withGroups s [] }
+abbrev versionMessage : List ℕ
+versionMessage = messageOf 0x00 []
+
+abbrev removal : List ℕ
+removal = messageOf 0x32 []
+
+abbrev making : List ℕ
+making = messageOf 0x30 (0 ∷ [])
+
+module _ (t : Table) (a : Place) (busy room : ℕ) (s : State) (r : Ready t a room s) where
+  abbrev sent : List ℕ → Result
+  sent m = packet t a busy room (packed (a .own) m) s
+
+  version-accepted : Accepted t busy s versionMessage
+  unfolding judge check line commandOf Rattle.bsmp.specs.Base.first
+  version-accepted = record { fits = lit≤ tt; passes = refl }
+
+  version-answered : sent versionMessage ≡ record { ending = versionAnswer; state = s }
   unfolding served handled carried judge check line said stateAfter spoken after ends commandOf Rattle.bsmp.specs.Base.first
-  groups-removed = unicast t a busy room (messageOf 0x32 []) s r (lit≤ tt)
+  version-answered = unicast t a busy room versionMessage s r (lit≤ tt)
+
+  removal-accepted : Accepted t busy s removal
+  unfolding judge check line commandOf Rattle.bsmp.specs.Base.first
+  removal-accepted = record { fits = lit≤ tt; passes = refl }
+
+  groups-removed : sent removal ≡ record { ending = reply (frame 0xE0 []); state = withGroups s [] }
+  unfolding served handled carried judge check line said stateAfter spoken after ends commandOf Rattle.bsmp.specs.Base.first
+  groups-removed = unicast t a busy room removal s r (lit≤ tt)
+
+  some-size : 1 ≤ length (layout t .sizes)
+  some-size = rw (length-map (t .variables) (λ v. v .size)) (some-variable t s (r .board))
+
+  making-accepted : s .groups ≡ [] → Accepted t busy s making
+  unfolding judge check line commandOf Rattle.bsmp.specs.Base.first
+  making-accepted none =
+      let l : length (s .groups) ≡ 0 = ap length none in
+      record {
+        fits = lit≤ tt;
+        passes = rw (le-ltb (length (layout t .sizes)) 1 some-size, lt-ltb 0 (length (layout t .sizes)) some-size, lt-leb 5 (length (s .groups)) (omega arith));
+      }
+
+  first-made : s .groups ≡ [] → sent making .state .groups ≡ s .groups ++ setOf (layout t) (variable 0 ∷ []) ∷ []
+  unfolding served handled carried line stateAfter after commandOf
+  first-made none =
+      ap (λ x. x .state .groups) (unicast t a busy room making s r (lit≤ tt))
+      ∙ ap (λ v. stateAfter (asked (layout t) (s .groups) making) v s .groups) (making-accepted none .passes)
 
   -- answers E2 to all
-  pub not-E2-to-all : ((p : List ℕ) → packet t a busy room p s .ending ≡ reply (frame 0xE2 [])) → ⊥
+  pub not-E2-to-all : ((m : List ℕ) → Accepted t busy s m → sent m .ending ≡ reply (frame 0xE2 [])) → ⊥
   unfolding frame
-  not-E2-to-all h = eqb-false 0x01 0xE2 refl (ap codeOf (sym (ap (λ x. x .ending) version-answered) ∙ h (packed (a .own) (messageOf 0x00 []))))
+  not-E2-to-all h = eqb-false 0x01 0xE2 refl (ap codeOf (sym (ap (λ x. x .ending) version-answered) ∙ h versionMessage version-accepted))
 
   -- sends the same reply always
-  pub not-one-reply : (e : Ending) → ((p : List ℕ) → packet t a busy room p s .ending ≡ e) → ⊥
+  pub not-one-reply : (e : Ending) → ((m : List ℕ) → Accepted t busy s m → sent m .ending ≡ e) → ⊥
   unfolding frame
   not-one-reply e h =
-      eqb-false 0x01 0xE0 refl (ap codeOf (sym (ap (λ x. x .ending) version-answered) ∙ h (packed (a .own) (messageOf 0x00 []))
-      ∙ sym (h (packed (a .own) (messageOf 0x32 []))) ∙ ap (λ x. x .ending) groups-removed))
-
-  first-made : s .groups ≡ [] → served (layout t) busy true (messageOf 0x30 (0 ∷ [])) s .state .groups ≡ s .groups ++ setOf (layout t) (variable 0 ∷ []) ∷ []
-  unfolding served handled carried judge check line stateAfter after commandOf Rattle.bsmp.specs.Base.first
-  first-made none =
-      let n : 1 ≤ length (layout t .sizes) = rw (length-map (t .variables) (λ v. v .size)) (some-variable t s (r .board)) in
-      let l : length (s .groups) ≡ 0 = ap length none in
-      rw (le-ltb (length (layout t .sizes)) 1 n, lt-ltb 0 (length (layout t .sizes)) n, lt-leb 5 (length (s .groups)) (omega arith), stateAfter)
+      eqb-false 0x01 0xE0 refl (ap codeOf (sym (ap (λ x. x .ending) version-answered) ∙ h versionMessage version-accepted
+      ∙ sym (h removal removal-accepted) ∙ ap (λ x. x .ending) groups-removed))
 
   -- changes nothing: then there would be no made groups, and a first one could not be made
-  pub not-frozen : ((p : List ℕ) → packet t a busy room p s .state ≡ s) → ⊥
+  pub not-frozen : ((m : List ℕ) → Accepted t busy s m → sent m .state ≡ s) → ⊥
   not-frozen h =
-      let none : s .groups ≡ [] = sym (ap (λ x. x .groups) (sym (ap (λ x. x .state) groups-removed) ∙ h (packed (a .own) (messageOf 0x32 [])))) in
-      let p : List ℕ = packed (a .own) (messageOf 0x30 (0 ∷ [])) in
-      let made : packet t a busy room p s .state .groups ≡ s .groups ++ setOf (layout t) (variable 0 ∷ []) ∷ [] =
-      ap (λ x. x .state .groups) (unicast t a busy room (messageOf 0x30 (0 ∷ [])) s r (lit≤ tt)) ∙ first-made none in
-      let gone : s .groups ++ setOf (layout t) (variable 0 ∷ []) ∷ [] ≡ [] = sym made ∙ ap (λ x. x .groups) (h p) ∙ none in
+      let none : s .groups ≡ [] = sym (ap (λ x. x .groups) (sym (ap (λ x. x .state) groups-removed) ∙ h removal removal-accepted)) in
+      let gone : s .groups ++ setOf (layout t) (variable 0 ∷ []) ∷ [] ≡ [] =
+      sym (first-made none) ∙ ap (λ x. x .groups) (h making (making-accepted none)) ∙ none in
       let l : length (s .groups ++ setOf (layout t) (variable 0 ∷ []) ∷ []) ≡ 0 = ap length gone in
       omega (arith, simp length-append at l)
 
--- serves only its first packet: whatever came before, the next request for the version is answered
-pub still-served : (t : Table) (a : Place) (busy room : ℕ) (es : List Event) (s : State) → Ready t a room s
-    → packet t a busy room (packed (a .own) (messageOf 0x00 [])) (later t a es s) .ending ≡ versionAnswer
-still-served t a busy room es s r =
-    ap (λ x. x .ending) (version-answered t a busy room (later t a es s) (record { board = later-usable t a es s (r .board); place = r .place; enough = r .enough }))
+-- serves only its first packet: whatever came before, the board is in use and each message is served ..
+pub still-ready : (t : Table) (a : Place) (room : ℕ) (es : List Event) (s : State) → Ready t a room s → Ready t a room (later t a es s)
+still-ready t a room es s r = record { board = later-usable t a es s (r .board); place = r .place; enough = r .enough }
 
-pub not-first-only : (t : Table) (a : Place) (busy room : ℕ) (s : State) (p : List ℕ) → Ready t a room s
-    → ((q : List ℕ) → packet t a busy room q (packet t a busy room p s .state) .ending ≡ silence) → ⊥
-not-first-only t a busy room s p r h =
-    let e : versionAnswer ≡ silence = sym (still-served t a busy room (arrives busy room p ∷ []) s r) ∙ h (packed (a .own) (messageOf 0x00 [])) in
-    let z : _≡_ {A = ℕ} 0 1 = cc in absurd (omega arith)
+pub still-served : (t : Table) (a : Place) (busy room : ℕ) (es : List Event) (m : List ℕ) (s : State) → Ready t a room s → length m ≤ 4102
+    → packet t a busy room (packed (a .own) m) (later t a es s) ≡ served (layout t) busy true m (later t a es s)
+still-served t a busy room es m s r h = unicast t a busy room m (later t a es s) (still-ready t a room es s r) h
+
+-- .. so there is no one thing that the next accepted messages all come to
+pub not-first-only : (t : Table) (a : Place) (busy room : ℕ) (es : List Event) (s : State) → Ready t a room s
+    → (e : Ending) → ((m : List ℕ) → Accepted t busy (later t a es s) m → packet t a busy room (packed (a .own) m) (later t a es s) .ending ≡ e) → ⊥
+not-first-only t a busy room es s r = not-one-reply t a busy room (later t a es s) (still-ready t a room es s r)
 
 -- a reading that always gives 0: of any variable that a usable board declares as such a number, the bytes of 1 read as 1
 one-fits : (sg : Bool) (n : ℕ) → 1 ≤ n → inRange sg n (pos 1) ≡ true
@@ -129,7 +165,7 @@ one-fits true n h = lt-ltb 1 (2 ^ (8 * n - 1)) (pow-mono {i = 1} (omega arith))
 one-fits false n h = lt-ltb 1 (2 ^ (8 * n)) (pow-mono {i = 1} (omega arith))
 
 pub not-always-zero : (vs : List Variable) (i : VariableNumber) (sg : Bool) → clear (readingTests vs i sg (recordOf vs i .size))
-    → ((bs : List ℕ) → reading vs i sg bs ≡ is (pos 0)) → ⊥
+    → ((bs : List ℕ) → length bs ≡ recordOf vs i .size → reading vs i sg bs ≡ is (pos 0)) → ⊥
 unfolding reading
 not-always-zero vs i sg c h =
     let n : ℕ = recordOf vs i .size in
@@ -139,5 +175,5 @@ not-always-zero vs i sg c h =
     let k : length bs ≡ n = length-bytes big n (pos 1) in
     let e : reading vs i sg bs ≡ is (pos 1) =
     first-clear (readingTests vs i sg (length bs)) Reading.refused _ (rw k c) ∙ ap is (there sg big n (pos 1) some (one-fits sg n some)) in
-    let q : is (pos 1) ≡ is (pos 0) = sym e ∙ h bs in
+    let q : is (pos 1) ≡ is (pos 0) = sym e ∙ h bs k in
     let z : _≡_ {A = ℕ} 1 0 = cc in omega arith
