@@ -1,10 +1,10 @@
 -- What nothing changes: a local refusal, a wire error; and a multicast is never answered. Assumes nothing.
-use mathlib.Core.Path.{_≡_, refl, ap, ap₂, _∙_}
+use mathlib.Core.Path.{_≡_, refl, ap, _∙_}
 use mathlib.Core.Bool.{Bool, true, false}
 use mathlib.Core.List.{List}
 use Prim.Native.Nat.{ℕ}
 use native.Mathlib.Omega.{arith}
-use Rattle.bsmp.specs.Board.{Table, Layout, layout, State, blockSizes, faults}
+use Rattle.bsmp.specs.Board.{Table, Layout, layout, State, withValues, faults}
 use Rattle.bsmp.specs.Message.{Said, replies, runs, after, carried, stateAfter, handled, asked, judge}
 use Rattle.bsmp.specs.Packet.{Place, Ending, reply, silence, run, Result, refuse, Ran, ends, placeTests, packetTests, served, packet, resultTests, functionResult, storeTests, boardStore, isOwn, destination}
 use Rattle.bsmp.specs.Store.{Lent, held, lentOf, outcomeOf, shown}
@@ -16,7 +16,7 @@ use Rattle.bsmp.specs.declared.WireError.{WireError}
 use Rattle.bsmp.specs.declared.Check.the-variants.{Fail}
 use Rattle.bsmp.specs.declared.Outcome.the-variants.{Refused}
 use Rattle.bsmp.proofs.Chain.{first-case}
-use Rattle.bsmp.proofs.Store.{join-cut}
+use Rattle.bsmp.proofs.Store.{lent-held}
 
 -- "An error changes values, curves and groups in no byte"
 pub error-keeps : (l : Layout) (busy : ℕ) (m : List ℕ) (s : State) (e : WireError) → judge l (s .groups) busy m ≡ Fail e → handled l busy m s .state ≡ s
@@ -58,27 +58,25 @@ outcome-refused silence r h = cc
 outcome-refused (run f i due) r h = cc
 outcome-refused (Ending.refused m) r h = cc
 
--- a function's result changes nothing that the board holds, a board store no block and no group
+-- a function's result changes nothing that the board holds, a board store the values alone
 pub result-keeps : (t : Table) (room : ℕ) (f : FunctionNumber) (due : Bool) (r : Ran) (s : State) → functionResult t room f due r s .state ≡ s
 unfolding functionResult
 result-keeps t room f due r s =
     first-case (λ x. x .state ≡ s) (faults t s) (refuse s) _ (λ m. refl)
     (λ b. first-case (λ x. x .state ≡ s) (resultTests (layout t) room f r) (refuse s) _ (λ m. refl) (λ c. refl))
 
-pub store-keeps : (t : Table) (i : VariableNumber) (b : List ℕ) (s : State)
-    → (s .blocks ≡ boardStore t i b s .state .blocks) × (s .groups ≡ boardStore t i b s .state .groups)
+pub store-keeps : (t : Table) (i : VariableNumber) (b : List ℕ) (s : State) → boardStore t i b s .state ≡ withValues s (boardStore t i b s .state .values)
 unfolding boardStore after
 store-keeps t i b s =
-    let Kept : Result → Type 0 = λ x. (s .blocks ≡ x .state .blocks) × (s .groups ≡ x .state .groups) in
-    first-case Kept (faults t s) (refuse s) _ (λ m. (refl, refl)) (λ d. first-case Kept (storeTests (layout t) i b) (refuse s) _ (λ m. (refl, refl)) (λ c. (refl, refl)))
+    let Kept : Result → Type 0 = λ x. x .state ≡ withValues s (x .state .values) in
+    first-case Kept (faults t s) (refuse s) _ (λ m. refl) (λ d. first-case Kept (storeTests (layout t) i b) (refuse s) _ (λ m. refl) (λ c. refl))
 
 -- the same over what is lent: no byte of any store, group table or buffer, whatever their lengths
 pub refusal-keeps-lent : (t : Table) (a : Place) (c : Call) (x : Lent) (r : Refusal) → leftBy t a c x .outcome ≡ Refused r
     → (lentOf (leftBy t a c x .holds) ≡ x) × (leftBy t a c x .buffer ≡ bufferOf c)
 refusal-keeps-lent t a c x r h =
     let o : happen t a (eventOf c) (held (layout t) x) .ending ≡ Ending.refused r = outcome-refused _ r h in (
-      ap lentOf (refusal-keeps t a (eventOf c) (held (layout t) x) r o)
-          ∙ ap₂ (λ vs cs. record { values = vs; curves = cs; groups = x .groups }) (join-cut (layout t .sizes) (x .values)) (join-cut (blockSizes (t .curves)) (x .curves)),
+      ap lentOf (refusal-keeps t a (eventOf c) (held (layout t) x) r o) ∙ lent-held (layout t) x,
       ap (λ e. shown e (bufferOf c)) o,
     )
 

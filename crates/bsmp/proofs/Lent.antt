@@ -56,7 +56,7 @@ module _ (t : Table) (v : VariableNumber) where
   alike-held x₁ x₂ u₁ u₂ h = record {
     others = λ i n. by i n (decLt (i .0) (length (L .sizes)));
     lengths = values-kept x₁ u₁ ∙ sym (values-kept x₂ u₂);
-    blocks = ap (cut (blockSizes (t .curves))) (h .curves);
+    blocks = ap (cut (blockSizes (t .curves))) (h .blocks);
     groups = h .groups;
   }
     where
@@ -71,7 +71,7 @@ module _ (t : Table) (v : VariableNumber) where
   held-alike x₁ x₂ h = record {
     others = λ i k n. sym (value-in L x₁ i k) ∙ h .others i n ∙ value-in L x₂ i k;
     lengths = sym (whole x₁) ∙ ap (λ l. sum l) (h .lengths) ∙ whole x₂;
-    curves = sym (join-cut (blockSizes (t .curves)) (x₁ .curves)) ∙ ap join (h .blocks) ∙ join-cut (blockSizes (t .curves)) (x₂ .curves);
+    blocks = sym (join-cut (blockSizes (t .curves)) (x₁ .blocks)) ∙ ap join (h .blocks) ∙ join-cut (blockSizes (t .curves)) (x₂ .blocks);
     groups = h .groups;
   }
 

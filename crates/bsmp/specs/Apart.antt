@@ -132,5 +132,5 @@ lentAfter t a (c ∷ cs) x = lentAfter t a cs (lentOf (leftBy t a c x .holds))
 pub record LentAlike (l : Layout) (v : VariableNumber) (x₁ x₂ : Lent) : Type 0 where
   pub others : (i : VariableNumber) → i .0 < length (l .sizes) → i ≢ v → bytesIn l (x₁ .values) i ≡ bytesIn l (x₂ .values) i
   pub lengths : length (x₁ .values) ≡ length (x₂ .values)
-  pub curves : x₁ .curves ≡ x₂ .curves
+  pub blocks : x₁ .blocks ≡ x₂ .blocks
   pub groups : x₁ .groups ≡ x₂ .groups

@@ -12,16 +12,16 @@ use Rattle.bsmp.specs.declared.Outcome.the-variants.{Reply, Silence, Run
 -- the two stores and the made groups
 pub record Lent : Type 0 where
   pub values : List ℕ
-  pub curves : List ℕ
+  pub blocks : List ℕ
   pub groups : List ℕ
 
 -- "the bytes of one variable start where those before it end. Curves stand likewise in a second store, block after block"
 abbrev pub held : Layout → Lent → State
-held l x = record { values = cut (l .sizes) (x .values); blocks = cut (blockSizes (l .curves)) (x .curves); groups = x .groups }
+held l x = record { values = cut (l .sizes) (x .values); blocks = cut (blockSizes (l .curves)) (x .blocks); groups = x .groups }
 
 -- and the stores that hold a state
 abbrev pub lentOf : State → Lent
-lentOf s = record { values = join (s .values); curves = join (s .blocks); groups = s .groups }
+lentOf s = record { values = join (s .values); blocks = join (s .blocks); groups = s .groups }
 
 -- where number i starts, for pieces of these lengths; and a variable's bytes in the store
 abbrev pub start : List ℕ → ℕ → ℕ

@@ -25,10 +25,10 @@ use Rattle.bsmp.specs.declared.Outcome.the-variants as O
 use Rattle.bsmp.specs.Codes.{refusalNumber}
 use Rattle.bsmp.proofs.Chain.{first-case}
 use Rattle.bsmp.proofs.Keeps.{result-keeps, store-keeps}
-use Rattle.bsmp.proofs.Store.{join-cut}
+use Rattle.bsmp.proofs.Store.{lent-held}
 use Rattle.bsmp.proofs.Stays.{stays, held-again}
 use Rattle.bsmp.proofs.Lent.{lent-before, lent-apart}
-use Rattle.records.specs.Lending.{groupsOf, lent}
+use Rattle.records.specs.Lending.{groupsOf, lent, lentValues}
 use Rattle.records.specs.declared.Groups.{Groups}
 use Rattle.records.proofs.Lending.{groups-lent}
 use Rattle.records.proofs.Sound.{usable-sound, groups-most}
@@ -109,7 +109,7 @@ module _ (x : Lending) (own multicast busy : ℕ) (request reply : List ℕ) (u 
       let e : groupsOf g′ ≡ after .groups = (λ i. groupsOf (h i .groups)) ∙ table-says (after .groups) (x .groups) few in
       record {
         sees-it = (λ i. plainSeen (h i .outcome) (h i .reply)) ∙ seen-plain (y .outcome) (y .buffer);
-        leaves-it = λ i. record { values = h i .values; curves = h i .blocks; groups = e i };
+        leaves-it = λ i. record { values = h i .values; blocks = h i .blocks; groups = e i };
       }
 
 -- `bsmp_function_result`, on any board: nothing that the board holds changes -----------------------------------------------
@@ -123,11 +123,10 @@ result-gives x a f due failed error output reply o reply′ h =
     let k : y .holds ≡ heldIn x = result-keeps t (length reply) (function f) due (ranOf (ranFrom failed error) output) (heldIn x) in
     record {
       sees-it = (λ i. plainSeen (h i .outcome) (h i .reply)) ∙ seen-plain (y .outcome) (y .buffer);
-      leaves-it = sym (ap lentOf k
-          ∙ ap₂ (λ z w. lent z w (groupsOf (x .groups))) (join-cut (layout t .sizes) (x .values)) (join-cut (blockSizes (layout t .curves)) (x .blocks)));
+      leaves-it = sym (ap lentOf k ∙ lent-held (layout t) (lentIn x));
     }
 
--- `bsmp_board_store`, on any board: blocks and groups stay --------------------------------------------------------------------
+-- `bsmp_board_store`, on any board: all but the values stays --------------------------------------------------------------------
 store-seen : (t : Table) (i : VariableNumber) (b : List ℕ) (s : State)
     → numberSeen (storedNumber (storedOf (boardStore t i b s .ending))) ≡ plainSeenOf (seenOf (leaves (boardStore t i b s) []))
 unfolding boardStore
@@ -136,14 +135,14 @@ store-seen t i b s =
     first-case Said (faults t s) (refuse s) _ number-refused (λ d. first-case Said (storeTests (layout t) i b) (refuse s) _ number-refused (λ c. refl))
 
 pub store-gives : (x : Lending) (a : Place) (i : ℕ) (bytes : List ℕ) (n : ℕ) (values′ : List ℕ) → plainBytesLeft n values′ ≡ storeOf x i bytes
-    → Gives (tableIn x) a (turn (storeIn (variable i) bytes) (numberSeen n) (lent values′ (x .blocks) (groupsOf (x .groups)))) (lentIn x)
+    → Gives (tableIn x) a (turn (storeIn (variable i) bytes) (numberSeen n) (lentValues (lentIn x) values′)) (lentIn x)
 store-gives x a i bytes n values′ h =
     let t : Table = tableIn x in
-    let k = store-keeps t (variable i) bytes (heldIn x) in
-    let b = sym (join-cut (blockSizes (layout t .curves)) (x .blocks)) ∙ ap join (k .0) in
+    let after : State = boardStore t (variable i) bytes (heldIn x) .state in
+    let k : lentOf after ≡ lentValues (lentOf (heldIn x)) (join (after .values)) = ap lentOf (store-keeps t (variable i) bytes (heldIn x)) in
     record {
       sees-it = ap (λ (y : PlainBytesLeft). numberSeen (y .number)) h ∙ store-seen t (variable i) bytes (heldIn x);
-      leaves-it = λ j. record { values = h j .bytes; curves = b j; groups = k .1 j };
+      leaves-it = ap (λ (y : PlainBytesLeft). lentValues (lentIn x) (y .bytes)) h ∙ sym (k ∙ ap (λ y. lentValues y (join (after .values))) (lent-held (layout t) (lentIn x)));
     }
 
 -- runs of calls ---------------------------------------------------------------------------------------------------------------

@@ -2,10 +2,11 @@
 use mathlib.Core.Path.{_≡_, refl, ap}
 use mathlib.Core.List.{List, [], _∷_, _++_, map}
 use Prim.Native.Nat.{ℕ, _<_}
+use native.Mathlib.Omega.{arith}
 use lib.ListN.{length, drop, set, getD}
 use Rattle.bsmp.specs.Base.{cut, byteAt}
 use Rattle.bsmp.specs.Codes.{operationOf}
-use Rattle.bsmp.specs.Board.{Layout, sizeOf, members, withValues, withBlocks, withGroups}
+use Rattle.bsmp.specs.Board.{Layout, State, sizeOf, members, withValues, withBlocks, withGroups}
 use Rattle.bsmp.specs.Message.{nothing, edit, fill, regroup, variableAt, groupAt, line, edited, filled, after}
 use Rattle.bsmp.specs.Store.{Lent, held}
 use Rattle.bsmp.specs.declared.VariableNumber.{VariableNumber}
@@ -17,7 +18,7 @@ use Rattle.bsmp.specs.declared.Command.{Command}
 use Rattle.bsmp.specs.declared.Command.the-variants.{WriteVariable, WriteGroup, MaskVariable, MaskGroup, WriteRead, MakeGroup, RemoveGroups, WriteBlock}
 use Rattle.sets.specs.Promises.{Below, Named}
 use Rattle.parts.specs.Parts.{layoutOf, variablesOnly, Passed}
-use Rattle.records.specs.Lending.{lent}
+use Rattle.records.specs.Lending.{lentValues, lentBlocks}
 use Rattle.variables.specs.Fits.{OneFits}
 use Rattle.variables.proofs.Passes as variables
 use Rattle.groups.specs.Promises.{GroupFits}
@@ -25,9 +26,18 @@ use Rattle.groups.proofs.Pass as groups
 use Rattle.curves.specs.Fits.{BlockFits, blocksIn, placeOf, namedBlock}
 use Rattle.curves.proofs.Passes as curves
 use Rattle.judging.specs.Judging.{SoundBoard}
-use Rattle.changes.specs.Changes.{regrouped, ChangedBy}
+use Rattle.changes.specs.Changes.{regrouped, removal, LeftAs, ChangedBy}
 use Rattle.changes.specs.declared.Regroup.{Regroup}
 use Rattle.changes.specs.declared.Regroup.the-variants.{Keep, Make, Remove}
+
+-- the removal of all made groups, where there are none and where there are some
+pub none-removed : (gs : List ℕ) → length gs ≡ 0 → Keep ≡ removal gs
+none-removed [] h = refl
+none-removed (g ∷ gs) h = absurd (omega (arith, h))
+
+pub all-removed : (gs : List ℕ) → (length gs ≡ 0 → ⊥) → Remove ≡ removal gs
+all-removed [] h = absurd (h refl)
+all-removed (g ∷ gs) h = refl
 
 as-command : (l : Layout) (gs p : List ℕ) (k c : Command) → k ≡ c → Passed l gs p k → Passed l gs p c
 as-command l gs p k c e h = rw e at h
@@ -66,25 +76,31 @@ module _ (ns : List ℕ) (w : ℕ) (cs : List Curve) (fs : List Function) (gs p 
 
 -- what is then left of what is lent
 module _ (l : Layout) (x : Lent) where
+  stays : (s : State) (y : Lent) → held l y ≡ s → LeftAs l s Keep y
+  stays s y h = record { holds = h; some-removed = λ e. let z : _≡_ {A = ℕ} 0 1 = cc in absurd (omega arith) }
+
+  pub all-kept : LeftAs l (held l x) Keep x
+  all-kept = stays (held l x) x refl
+
   -- a change that leaves all as it was, one of the values alone, one of the blocks, and one of the made groups
   kept : ChangedBy l x nothing Keep x
   unfolding after
-  kept = record { holds = refl }
+  kept = record { leaves = all-kept }
 
   values-edited : (op : Operation) (is : List VariableNumber) (ps : List (List ℕ)) (vs : List ℕ)
-      → cut (l .sizes) vs ≡ edited op is ps (cut (l .sizes) (x .values)) → ChangedBy l x (edit op is ps) Keep (lent vs (x .curves) (x .groups))
+      → cut (l .sizes) vs ≡ edited op is ps (cut (l .sizes) (x .values)) → ChangedBy l x (edit op is ps) Keep (lentValues x vs)
   unfolding after
-  values-edited op is ps vs h = record { holds = ap (withValues (held l x)) h }
+  values-edited op is ps vs h = record { leaves = stays _ (lentValues x vs) (ap (withValues (held l x)) h) }
 
   block-filled : (k : ℕ) (d bs : List ℕ)
-      → blocksIn (l .curves) bs ≡ set (blocksIn (l .curves) (x .curves)) k (filled d (getD (blocksIn (l .curves) (x .curves)) k []))
-      → ChangedBy l x (fill k d) Keep (lent (x .values) bs (x .groups))
+      → blocksIn (l .curves) bs ≡ set (blocksIn (l .curves) (x .blocks)) k (filled d (getD (blocksIn (l .curves) (x .blocks)) k []))
+      → ChangedBy l x (fill k d) Keep (lentBlocks x bs)
   unfolding after
-  block-filled k d bs h = record { holds = ap (withBlocks (held l x)) h }
+  block-filled k d bs h = record { leaves = stays _ (lentBlocks x bs) (ap (withBlocks (held l x)) h) }
 
-  groups-made : (r : Regroup) (gs : List ℕ) → regrouped r (x .groups) ≡ gs → ChangedBy l x (regroup gs) r x
+  groups-made : (r : Regroup) (gs : List ℕ) → regrouped r (x .groups) ≡ gs → (r ≡ Remove → 0 < length (x .groups)) → ChangedBy l x (regroup gs) r x
   unfolding after
-  groups-made r gs h = record { holds = ap (withGroups (held l x)) h }
+  groups-made r gs h k = record { leaves = record { holds = ap (withGroups (held l x)) h; some-removed = k } }
 
   module _ (p : List ℕ) (k : Command) where
     abbrev Changed : Regroup → Lent → Type 0
@@ -93,7 +109,7 @@ module _ (l : Layout) (x : Lent) where
     -- commands that write to the values
     module _ (vs : List ℕ) where
       abbrev With : Lent
-      With = lent vs (x .curves) (x .groups)
+      With = lentValues x vs
 
       abbrev Values : List (List ℕ)
       Values = cut (l .sizes) (x .values)
@@ -129,8 +145,8 @@ module _ (l : Layout) (x : Lent) where
       group-masked op e o h = rw (e, ← o) (values-edited op _ _ vs h)
 
     pub block-written : (bs : List ℕ) → k ≡ WriteBlock
-        → blocksIn (l .curves) bs ≡ set (blocksIn (l .curves) (x .curves)) (placeOf (l .curves) p) (filled (drop 3 p) (namedBlock (l .curves) (x .curves) p))
-        → Changed Keep (lent (x .values) bs (x .groups))
+        → blocksIn (l .curves) bs ≡ set (blocksIn (l .curves) (x .blocks)) (placeOf (l .curves) p) (filled (drop 3 p) (namedBlock (l .curves) (x .blocks) p))
+        → Changed Keep (lentBlocks x bs)
     unfolding line
     block-written bs e h = rw e (block-filled _ _ bs h)
 
@@ -139,11 +155,15 @@ module _ (l : Layout) (x : Lent) where
     unfolding line
     group-made m e h q =
         let n = groups.make-set _ _ _ _ (x .groups) p m (as-command l (x .groups) p k MakeGroup e h) q in
-        rw e (groups-made (Make m) _ (ap (λ s. x .groups ++ s ∷ []) n))
+        rw e (groups-made (Make m) _ (ap (λ s. x .groups ++ s ∷ []) n) (λ f. let z : _≡_ {A = ℕ} 0 1 = cc in absurd (omega arith)))
 
-    pub groups-removed : k ≡ RemoveGroups → Changed Remove x
+    pub groups-removed : (r : Regroup) → k ≡ RemoveGroups → r ≡ removal (x .groups) → Changed r x
     unfolding line
-    groups-removed e = rw e (groups-made Remove [] refl)
+    groups-removed r e h = rw (e, h) (by (x .groups) refl)
+      where
+        by : (gs : List ℕ) → x .groups ≡ gs → ChangedBy l x (regroup []) (removal gs) x
+        by [] q = groups-made Keep [] q (λ f. let z : _≡_ {A = ℕ} 0 1 = cc in absurd (omega arith))
+        by (g ∷ gs) q = groups-made Remove [] refl (λ f. rw q (omega arith))
 
     -- all others
     pub nothing-changed : (c : Command) → k ≡ c → line l (x .groups) p c .change ≡ nothing → Changed Keep x

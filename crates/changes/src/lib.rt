@@ -11,14 +11,24 @@ ghost use Rattle.parts.specs.Parts.{Passed};
 ghost use Rattle.records.specs.Lending.{lent};
 ghost use Rattle.judging.specs.Judging.{lentLayout, SoundBoard};
 ghost use Rattle.variables.specs.Fits.{OneFits};
-ghost use Rattle.changes.specs.Changes.{ChangedBy};
+ghost use Rattle.changes.specs.Changes.{removal, ChangedBy};
 ghost use Rattle.changes.specs.declared.Regroup.the-variants.{Keep};
 
-// What a message makes of the made groups.
+// What a message makes of the made groups. Where none are made there are none to remove, and they are kept.
 pub enum Regroup {
     Keep,
     Make(u64),
     Remove,
+}
+
+// All made groups are removed.
+fn removal(groups: &[u64]) -> Regroup
+    ensures { λ r. ⌜ r ≡ removal (now (groups .entry)) ⌝ }
+{
+    if groups.len() == 0 {
+        return Regroup::Keep;
+    }
+    Regroup::Remove
 }
 
 // The variable named first is changed by the bytes behind the front; the made groups stay.
@@ -76,7 +86,7 @@ pub fn change(
         }
         Command::WriteRead => change_variable(sizes, values, Operation::Replace, payload, 2),
         Command::MakeGroup => Regroup::Make(sets::set_of(payload)),
-        Command::RemoveGroups => Regroup::Remove,
+        Command::RemoveGroups => removal(groups),
         Command::WriteBlock => {
             curves::change(curves, blocks, payload);
             Regroup::Keep

@@ -1,6 +1,6 @@
 -- A message judged, and what a pass tells its command; the state after it. Assumes nothing.
 use mathlib.Core.Path.{_≡_, refl, sym, _∙_}
-use mathlib.Core.List.{List}
+use mathlib.Core.List.{List, [], _∷_}
 use Prim.Native.Nat.{ℕ, _+_, _-_, _*_, _≤_, _<_}
 use native.Mathlib.Omega.{arith}
 use borrow.Rule.Slice.PartMut.{midOf}
@@ -22,6 +22,11 @@ use Rattle.parts.specs.Parts.{Passed}
 use Rattle.parts.proofs.Tested.{not-on, not-off, or-left, or-right, or-none}
 use Rattle.parts.proofs.Passed.{fail-no}
 use Rattle.judging.specs.Judging.{Judgement}
+
+-- an empty message has no byte, which counts as 0
+pub none-named : (m : List ℕ) (k : Command) → length m ≡ 0 → k ≡ commandOf 0 → k ≡ commandOf (byteAt m 0)
+none-named [] k h e = e
+none-named (b ∷ m) k h e = absurd (omega (arith, h))
 
 -- the tests of the command that a match found
 pub of-command : (l : Layout) (gs : List ℕ) (busy : ℕ) (p : List ℕ) (k c : Command) (v : Check) → k ≡ c → v ≡ check l gs busy p c → v ≡ check l gs busy p k

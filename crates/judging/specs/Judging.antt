@@ -22,7 +22,7 @@ lentLayout ns w cs fs = layoutOf ns w (curvesOf cs) (functionsOf fs)
 pub record SoundBoard (l : Layout) (x : Lent) : Type 0 where
   pub variables : Sound (l .sizes) (x .values)
   pub sizes : every usableSize (l .sizes) ≡ true
-  pub curves : SoundCurves (l .curves) (x .curves)
+  pub curves : SoundCurves (l .curves) (x .blocks)
   pub functions : usableFunctions (l .functions) ≡ true
   pub groups : length (x .groups) ≤ 5
 

@@ -5,6 +5,8 @@ use bsmp::WireError;
 ghost use mathlib.Core.Path.{_≡_};
 ghost use Prim.Native.Nat.{_≤_};
 ghost use lib.ListN.{length};
+ghost use Rattle.bsmp.specs.Base.{byteAt};
+ghost use Rattle.bsmp.specs.Codes.{commandOf};
 ghost use Rattle.bsmp.specs.Message.{check, judge};
 ghost use Rattle.judging.specs.Judging.{lentLayout};
 
@@ -46,8 +48,19 @@ fn check(
     }
 }
 
+// A message's command; of an empty message, which its tests refuse, that of byte 00.
+pub fn command_of(message: &[u8]) -> Command
+    ensures { λ r. ⌜ r ≡ commandOf (byteAt (now (message .entry)) 0) ⌝ }
+{
+    if message.len() == 0 {
+        return Command::of(0);
+    }
+    Command::of(message[0])
+}
+
 // A message's length and SIZE, then its command's tests.
 pub fn judge(
+    command: Command,
     sizes: &[u8],
     writable: u64,
     curves: &[u32],
@@ -57,6 +70,7 @@ pub fn judge(
     busy: u64,
 ) -> Check
     requires { ⌜ (length (now sizes) ≤ 64) × (length (now groups) ≤ 5) ⌝ }
+    requires { ⌜ command ≡ commandOf (byteAt (now message) 0) ⌝ }
     ensures { λ r. let l = lentLayout (now (sizes .entry)) writable (now (curves .entry)) (now (functions .entry)) in
         ⌜ r ≡ judge l (now (groups .entry)) busy (now (message .entry)) ⌝ }
 {
@@ -68,7 +82,7 @@ pub fn judge(
         return Check::Fail(WireError::Malformed);
     }
     check(
-        Command::of(message[0]),
+        command,
         sizes,
         writable,
         curves,

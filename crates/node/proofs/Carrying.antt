@@ -70,7 +70,7 @@ module _ (t : Table) (a : Place) (busy : ℕ) (p vs bs : List ℕ) (g : Groups) 
   Z = packet t a busy (length b) p S
 
   groups-are : regrouped r (groupsOf g) ≡ Z .state .groups
-  groups-are = ap (λ s. s .groups) (h .ends .holds)
+  groups-are = ap (λ s. s .groups) (h .ends .leaves .holds)
 
   -- a group is made on a usable board only, which stays usable
   few : (u : Bool) → usable t S ≡ u → (n : ℕ) → r ≡ Make n → g .count < 5
@@ -92,7 +92,7 @@ module _ (t : Table) (a : Place) (busy : ℕ) (p vs bs : List ℕ) (g : Groups) 
 
   pub packet-left : (y : Groups) → y ≡ tableWith (regrouped r (groupsOf g)) g → packetLeft (record { outcome = o; groups = y }) b′ vs′ bs′ ≡ packetLeftOf Z b g
   packet-left y e =
-      let z : held (layout t) (lent vs′ bs′ (regrouped r (groupsOf g))) ≡ Z .state = h .ends .holds in
+      let z : held (layout t) (lent vs′ bs′ (regrouped r (groupsOf g))) ≡ Z .state = h .ends .leaves .holds in
       λ i. record {
         outcome = h .ends .outcome i;
         groups = (e ∙ ap (λ s. tableWith (s .groups) g) z) i;

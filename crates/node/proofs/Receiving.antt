@@ -25,9 +25,9 @@ use Rattle.wire.specs.declared.Opened.{Opened}
 use Rattle.wire.specs.declared.Opened.the-variants.{Message, Refused}
 use Rattle.wire.proofs.Frame.{frame-shown, frame-outcome}
 use Rattle.wire.proofs.Opening.{refused-first, message-first, message-due, message-lent}
-use Rattle.changes.specs.Changes.{withRegroup}
 use Rattle.changes.specs.declared.Regroup.{Regroup}
 use Rattle.changes.specs.declared.Regroup.the-variants.{Keep}
+use Rattle.changes.proofs.Changes.{all-kept}
 use Rattle.answers.specs.Answers.{Spoke}
 use Rattle.answers.specs.declared.Spoken.{Spoken}
 use Rattle.answers.specs.declared.Spoken.the-variants.{Reply, Run, Nothing}
@@ -82,13 +82,13 @@ pub answer-ends : (due : Bool) (l : Layout) (busy : ℕ) (m : List ℕ) (x : Len
 unfolding served
 answer-ends due l busy m x b s g b₁ y o b₂ room h k =
     let w = ended b s b₁ o b₂ room due (handled l busy m (held l x) .says) (h .spoke) k in
-    record { outcome = w .0; reply = w .1; holds = h .holds }
+    record { outcome = w .0; reply = w .1; leaves = h .leaves }
 
 -- a refusal changes nothing of what is lent
 pub stopped : (l : Layout) (x : Lent) (b : List ℕ) (z : Result) (n : Refusal) (o : Outcome) (g : Regroup)
     → refuse (held l x) n ≡ z → o ≡ O.Refused n → g ≡ Keep → EndsAs z l b o g b x
 stopped l x b z n o g q e f =
-    subst (λ u. EndsAs u l b o g b x) q (record { outcome = e; reply = refl; holds = ap (λ u. held l (withRegroup u x)) f })
+    subst (λ u. EndsAs u l b o g b x) q (record { outcome = e; reply = refl; leaves = rw f (all-kept l x) })
 
 -- a packet on a usable board ---------------------------------------------------------------------------------------------
 module _ (l : Layout) (own mc busy : ℕ) (p : List ℕ) (x : Lent) (b : List ℕ) (u : Bool) (pl : u ≡ usablePlace (placed own mc)) where

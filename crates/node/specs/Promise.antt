@@ -20,7 +20,7 @@ use Rattle.records.specs.declared.Records.{Records}
 use Rattle.records.specs.declared.Groups.{Groups}
 use Rattle.records.specs.declared.Board.{Board}
 use Rattle.judging.specs.Judging.{lentLayout, SoundBoard}
-use Rattle.changes.specs.Changes.{withRegroup}
+use Rattle.changes.specs.Changes.{LeftAs}
 use Rattle.changes.specs.declared.Regroup.{Regroup}
 use Rattle.changes.specs.declared.Regroup.the-variants.{Make}
 use Rattle.answers.specs.declared.Spoken.{Spoken}
@@ -90,11 +90,11 @@ receivedOf l a busy room p s =
     (first (packetTests a p) (refuse s)
     (served l busy (isOwn a (destination p)) (message p) s))
 
--- what the work leaves before the table is regrouped: g becomes of the made groups, and y, regrouped, holds what the definition gives
+-- what the work leaves before the table is regrouped: y, and g becomes of the made groups
 pub record EndsAs (z : Result) (l : Layout) (b : List ℕ) (o : Outcome) (g : Regroup) (b′ : List ℕ) (y : Lent) : Type 0 where
   pub outcome : o ≡ outcomeOf (z .ending)
   pub reply : b′ ≡ shown (z .ending) b
-  pub holds : held l (withRegroup g y) ≡ z .state
+  pub leaves : LeftAs l (z .state) g y
 
 pub record ReceivedAs (l : Layout) (a : Place) (busy : ℕ) (p : List ℕ) (x : Lent) (b : List ℕ)
     (o : Outcome) (g : Regroup) (b′ : List ℕ) (y : Lent) : Type 0 where

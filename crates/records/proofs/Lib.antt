@@ -5,3 +5,4 @@ pub mod Counting
 pub mod Sound
 pub mod Blocks
 pub mod Whole
+pub mod Unique

@@ -24,7 +24,7 @@ pub record Sound (t : Table) (x : Lent) : Type 0 where
   pub variables : usableVariables (t .variables) ≡ true
   pub values : length (x .values) ≡ sum (sizesOf (t .variables))
   pub curves : usableCurves (t .curves) ≡ true
-  pub blocks : length (x .curves) ≡ sum (blockSizes (t .curves))
+  pub blocks : length (x .blocks) ≡ sum (blockSizes (t .curves))
   pub functions : usableFunctions (t .functions) ≡ true
   pub groups : usableGroups (length (t .variables)) (x .groups) ≡ true
 
@@ -35,7 +35,7 @@ usable-sound t x u =
       variables = p .variables;
       values = store-length (sizesOf (t .variables)) (x .values) (p .values);
       curves = p .curves;
-      blocks = store-length (blockSizes (t .curves)) (x .curves) (p .blocks);
+      blocks = store-length (blockSizes (t .curves)) (x .blocks) (p .blocks);
       functions = p .functions;
       groups = p .groups;
     }
@@ -45,7 +45,7 @@ sound-usable t x s = usable-whole t (held (layout t) x) (record {
   variables = s .variables;
   values = lengths-cut (sizesOf (t .variables)) (x .values) (s .values);
   curves = s .curves;
-  blocks = lengths-cut (blockSizes (t .curves)) (x .curves) (s .blocks);
+  blocks = lengths-cut (blockSizes (t .curves)) (x .blocks) (s .blocks);
   functions = s .functions;
   groups = s .groups;
 })

@@ -54,5 +54,15 @@ groupsOf g = numbered (λ i. getD (g .sets) i 0) (g .count)
 abbrev pub tableOf : Records → (curves functions : List ℕ) → Table
 tableOf r cs fs = record { variables = recordsOf r; curves = curvesOf cs; functions = functionsOf fs }
 
-abbrev pub lent : (values curves groups : List ℕ) → Lent
-lent vs cs gs = record { values = vs; curves = cs; groups = gs }
+abbrev pub lent : (values blocks groups : List ℕ) → Lent
+lent vs bs gs = record { values = vs; blocks = bs; groups = gs }
+
+-- what is lent, with one of its parts as a call leaves it
+abbrev pub lentValues : Lent → List ℕ → Lent
+lentValues x vs = record { values = vs; blocks = x .blocks; groups = x .groups }
+
+abbrev pub lentBlocks : Lent → List ℕ → Lent
+lentBlocks x bs = record { values = x .values; blocks = bs; groups = x .groups }
+
+abbrev pub lentGroups : Lent → List ℕ → Lent
+lentGroups x gs = record { values = x .values; blocks = x .blocks; groups = gs }

@@ -1,2 +1,3 @@
 pub mod Silence
 pub mod Serving
+pub mod Unique

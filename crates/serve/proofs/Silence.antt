@@ -10,7 +10,7 @@ use lib.Seq.{getD-drop}
 use Rattle.bsmp.specs.Base.{byteAt}
 use Rattle.bsmp.specs.Board.{Layout, State, function}
 use Rattle.bsmp.specs.Codes.{commandOf}
-use Rattle.bsmp.specs.Message.{functionAt, line, judge, Said, replies, runs, spoken, said}
+use Rattle.bsmp.specs.Message.{functionAt, line, Said, replies, runs, spoken, said}
 use Rattle.bsmp.specs.declared.FunctionNumber.{FunctionNumber}
 use Rattle.bsmp.specs.declared.WireError.{WireError}
 use Rattle.bsmp.specs.declared.Command.{Command}
@@ -18,13 +18,13 @@ use Rattle.bsmp.specs.declared.Command.the-variants.{RunFunction}
 use Rattle.bsmp.specs.declared.Check.{Check}
 use Rattle.bsmp.specs.declared.Check.the-variants.{Pass, Fail}
 use Rattle.lists.proofs.Put.{put-nil, mid-rest}
-use Rattle.parts.specs.Parts.{Passed}
-use Rattle.judging.proofs.Judging.{message-long, message-passed}
+use Rattle.judging.specs.Judging.{Judgement}
+use Rattle.judging.proofs.Judging.{judged-passed}
 use Rattle.answers.specs.Answers.{spokenOf, Spoke}
 use Rattle.answers.specs.declared.Spoken.{Spoken}
 use Rattle.answers.specs.declared.Spoken.the-variants.{Run, Nothing}
 use Rattle.answers.proofs.Answers.{run-needs}
-use Rattle.serve.specs.Serve.{Quiet, Unanswered, LongEnough}
+use Rattle.serve.specs.Serve.{Quiet, Unanswered, Named}
 
 -- nothing is written
 pub unheard : (x : Said) (r : List ℕ) (at : ℕ) (s : Spoken) → s ≡ spokenOf false x → Spoke false x r at s r
@@ -50,29 +50,22 @@ pub quiet-nothing : (k c : Command) (m : List ℕ) → k ≡ c
     → ((l : Layout) (gs : List ℕ) (s : State) → Nothing ≡ spokenOf false (spoken (line l gs (drop 3 m) c .answer) s)) → Quiet k m Nothing
 quiet-nothing k c m e h = rw e (record { is = h })
 
-module _ (v : Check) (m : List ℕ) where
-  pub unanswered-pass : (k : Command) (s : Spoken) → v ≡ Pass → k ≡ commandOf (byteAt m 0) → Quiet k m s → Unanswered v m s
+module _ (k : Command) (v : Check) (m : List ℕ) (h : Named k v m) where
+  pub unanswered-pass : (s : Spoken) → v ≡ Pass → Quiet k m s → Unanswered v m s
   unfolding said
-  unanswered-pass k s e f q = record { is = λ l gs st. rw (e, ← f) (q .is l gs st) }
+  unanswered-pass s e q = record { is = λ l gs st. rw (e, ← h .command) (q .is l gs st) }
 
-  pub unanswered-fail : (e : WireError) → v ≡ Fail e → Unanswered v m Nothing
-  unfolding said
-  unanswered-fail e h = record { is = λ l gs st. rw h }
+  pub run-there : v ≡ Pass → k ≡ RunFunction → 3 < length m
+  run-there = h .names
 
-  -- how long the message is, as its reading asks it
-  pub message-whole : LongEnough v m → v ≡ Pass → 0 < length m
-  message-whole h e = omega (arith, h .whole e)
+pub unanswered-fail : (v : Check) (m : List ℕ) (e : WireError) → v ≡ Fail e → Unanswered v m Nothing
+unfolding said
+unanswered-fail v m e h = record { is = λ l gs st. rw h }
 
-  pub message-names : (k : Command) → LongEnough v m → v ≡ Pass → k ≡ commandOf (byteAt m 0) → k ≡ RunFunction → 3 < length m
-  message-names k h e f g = h .names e (sym f ∙ g)
-
-  pub long-enough : (l : Layout) (gs : List ℕ) (busy : ℕ) → v ≡ judge l gs busy m → LongEnough v m
-  long-enough l gs busy q = record {
-    whole = λ e. message-long l gs busy m v q e;
-    names = λ e f.
-        let rest : List ℕ = midOf 3 (length m - 3) m in
-        let p : Passed l gs rest RunFunction = message-passed l gs busy m v RunFunction q e (sym f) in
-        let n : 0 < length rest = run-needs (l .sizes) (l .writable) (l .curves) (l .functions) gs rest RunFunction refl p in
-        let d : length rest ≡ length m - 3 = ap length (mid-rest 3 m) ∙ length-drop 3 m in
-        omega arith;
-  }
+-- a message that passed and asks for a run has its function's number
+pub run-named : (l : Layout) (gs m : List ℕ) (k : Command) (v : Check) → Judgement l gs m v → k ≡ commandOf (byteAt m 0) → v ≡ Pass → k ≡ RunFunction → 3 < length m
+run-named l gs m k v j f e g =
+    let rest : List ℕ = midOf 3 (length m - 3) m in
+    let n : 0 < length rest = run-needs (l .sizes) (l .writable) (l .curves) (l .functions) gs rest k g (judged-passed l gs m v k j e f) in
+    let d : length rest ≡ length m - 3 = ap length (mid-rest 3 m) ∙ length-drop 3 m in
+    omega arith

@@ -11,15 +11,14 @@ ghost use Rattle.bsmp.specs.Message.{asked, said};
 ghost use Rattle.bsmp.specs.Store.{held};
 ghost use Rattle.bsmp.specs.declared.Command.the-variants.{RunFunction};
 ghost use Rattle.records.specs.Lending.{lent};
-ghost use Rattle.judging.specs.Judging.{lentLayout, SoundBoard, Judgement};
+ghost use Rattle.judging.specs.Judging.{lentLayout, SoundBoard};
 ghost use Rattle.answers.specs.Answers.{Spoke};
-ghost use Rattle.changes.specs.Changes.{ChangedBy};
-ghost use Rattle.serve.specs.Serve.{PassedWhole, PerformedAs, Quiet, Unanswered, LongEnough, ServedAs};
+ghost use Rattle.serve.specs.Serve.{JudgedAs, Judged, CarriedOut, Quiet, Unanswered, Named, Fulfilled, ServedAs};
 
-// How a message was judged, and what it makes of the made groups.
-struct Performed {
+// A message's command, and how it was judged.
+struct Verdict {
+    command: Command,
     check: Check,
-    regroup: Regroup,
 }
 
 // What is said to a message, and what it makes of the made groups.
@@ -28,8 +27,36 @@ pub struct Served {
     pub regroup: Regroup,
 }
 
-// Carries out a message that passed its tests.
+fn judge(
+    sizes: &[u8],
+    writable: u64,
+    curves: &[u32],
+    functions: &[u8],
+    groups: &[u64],
+    message: &[u8],
+    busy: u64,
+) -> Verdict
+    requires { ⌜ (length (now sizes) ≤ 64) × (length (now groups) ≤ 5) ⌝ }
+    ensures { λ r. let l = lentLayout (now (sizes .entry)) writable (now (curves .entry)) (now (functions .entry)) in
+        ⌜ JudgedAs l (now (groups .entry)) busy (now (message .entry)) (r .command) (r .check) ⌝ }
+{
+    let command = judging::command_of(message);
+    let check = judging::judge(
+        command,
+        sizes,
+        writable,
+        curves,
+        functions,
+        groups,
+        message,
+        busy,
+    );
+    Verdict { command, check }
+}
+
+// Carries out a message if it passed its tests.
 fn carry_out(
+    verdict: Verdict,
     sizes: &[u8],
     writable: u64,
     curves: &[u32],
@@ -40,68 +67,34 @@ fn carry_out(
     message: &[u8],
 ) -> Regroup
     requires { ⌜ SoundBoard (lentLayout (now sizes) writable (now curves) (now functions)) (lent (now values) (now blocks) (now groups)) ⌝ }
-    requires { ⌜ PassedWhole (lentLayout (now sizes) writable (now curves) (now functions)) (now groups) (now message) ⌝ }
+    requires { ⌜ Judged (lentLayout (now sizes) writable (now curves) (now functions)) (now groups) (now message) (verdict .command) (verdict .check) ⌝ }
     ensures { λ r. let l = lentLayout (now (sizes .entry)) writable (now (curves .entry)) (now (functions .entry)) in
         let x = lent (now (values .entry)) (now (blocks .entry)) (now (groups .entry)) in
         let y = lent (now (values .exit)) (now (blocks .exit)) (now (groups .entry)) in
-        ⌜ ChangedBy l x (asked l (x .groups) (now (message .entry)) .change) r y ⌝ }
+        ⌜ CarriedOut l (now (message .entry)) (verdict .check) x r y ⌝ }
 {
-    changes::change(
-        Command::of(message[0]),
-        sizes,
-        writable,
-        curves,
-        functions,
-        groups,
-        values,
-        blocks,
-        &message[3..],
-    )
-}
-
-// Judges a message and carries it out.
-fn perform(
-    sizes: &[u8],
-    writable: u64,
-    curves: &[u32],
-    functions: &[u8],
-    groups: &[u64],
-    values: &mut [u8],
-    blocks: &mut [u8],
-    message: &[u8],
-    busy: u64,
-) -> Performed
-    requires { ⌜ SoundBoard (lentLayout (now sizes) writable (now curves) (now functions)) (lent (now values) (now blocks) (now groups)) ⌝ }
-    ensures { λ r. let l = lentLayout (now (sizes .entry)) writable (now (curves .entry)) (now (functions .entry)) in
-        let x = lent (now (values .entry)) (now (blocks .entry)) (now (groups .entry)) in
-        let y = lent (now (values .exit)) (now (blocks .exit)) (now (groups .entry)) in
-        ⌜ PerformedAs l busy (now (message .entry)) x (r .check) (r .regroup) y ⌝ }
-{
-    let v = judging::judge(sizes, writable, curves, functions, groups, message, busy);
-    match v {
-        Check::Pass => {
-            let regroup = carry_out(
-                sizes,
-                writable,
-                curves,
-                functions,
-                groups,
-                values,
-                blocks,
-                message,
-            );
-            Performed { check: v, regroup }
-        }
-        Check::Fail(_) => Performed {
-            check: v,
-            regroup: Regroup::Keep,
-        },
+    let command = verdict.command;
+    let check = verdict.check;
+    match check {
+        Check::Pass => changes::change(
+            command,
+            sizes,
+            writable,
+            curves,
+            functions,
+            groups,
+            values,
+            blocks,
+            &message[3..],
+        ),
+        Check::Fail(_) => Regroup::Keep,
     }
 }
 
-// What is said to a message that was judged so, out of the state after it.
+// What is said to a message where an answer is due, out of the state after it.
 fn respond(
     v: Check,
+    command: Command,
     sizes: &[u8],
     writable: u64,
     curves: &[u32],
@@ -113,9 +106,9 @@ fn respond(
     reply: &mut [u8],
     at: usize,
 ) -> Spoken
-    requires { ⌜ SoundBoard (lentLayout (now sizes) writable (now curves) (now functions)) (lent (now values) (now blocks) (now groups)) ⌝ }
-    requires { ⌜ Judgement (lentLayout (now sizes) writable (now curves) (now functions)) (now groups) (now message) v ⌝ }
-    requires { ⌜ at + 4099 ≤ length (now reply) ⌝ }
+    requires { let l = lentLayout (now sizes) writable (now curves) (now functions) in
+        ⌜ SoundBoard l (lent (now values) (now blocks) (now groups)) × (at + 4099 ≤ length (now reply)) ⌝ }
+    requires { ⌜ Judged (lentLayout (now sizes) writable (now curves) (now functions)) (now groups) (now message) command v ⌝ }
     ensures { λ r. let l = lentLayout (now (sizes .entry)) writable (now (curves .entry)) (now (functions .entry)) in
         let x = lent (now (values .entry)) (now (blocks .entry)) (now (groups .entry)) in
         let says = said (asked l (x .groups) (now (message .entry))) v (held l x) in
@@ -123,7 +116,7 @@ fn respond(
 {
     match v {
         Check::Pass => answers::answer(
-            Command::of(message[0]),
+            command,
             sizes,
             writable,
             curves,
@@ -170,14 +163,110 @@ fn quiet(command: Command, message: &[u8]) -> Spoken
     }
 }
 
-fn unanswered(v: Check, message: &[u8]) -> Spoken
-    requires { ⌜ LongEnough v (now message) ⌝ }
+fn unanswered(v: Check, command: Command, message: &[u8]) -> Spoken
+    requires { ⌜ Named command v (now message) ⌝ }
     ensures { λ r. ⌜ Unanswered v (now (message .entry)) r ⌝ }
 {
     match v {
-        Check::Pass => quiet(Command::of(message[0]), message),
+        Check::Pass => quiet(command, message),
         Check::Fail(_) => Spoken::Nothing,
     }
+}
+
+// What is said to a message, whether or not an answer is due.
+fn say(
+    due: bool,
+    verdict: Verdict,
+    sizes: &[u8],
+    writable: u64,
+    curves: &[u32],
+    functions: &[u8],
+    groups: &[u64],
+    values: &[u8],
+    blocks: &[u8],
+    message: &[u8],
+    reply: &mut [u8],
+    at: usize,
+) -> Spoken
+    requires { let l = lentLayout (now sizes) writable (now curves) (now functions) in
+        ⌜ SoundBoard l (lent (now values) (now blocks) (now groups)) × (at + 4099 ≤ length (now reply)) ⌝ }
+    requires { ⌜ Judged (lentLayout (now sizes) writable (now curves) (now functions)) (now groups) (now message) (verdict .command) (verdict .check) ⌝ }
+    ensures { λ r. let l = lentLayout (now (sizes .entry)) writable (now (curves .entry)) (now (functions .entry)) in
+        let x = lent (now (values .entry)) (now (blocks .entry)) (now (groups .entry)) in
+        let says = said (asked l (x .groups) (now (message .entry))) (verdict .check) (held l x) in
+        ⌜ Spoke due says (now (reply .entry)) at r (now (reply .exit)) ⌝ }
+{
+    let command = verdict.command;
+    let check = verdict.check;
+    if due {
+        return respond(
+            check,
+            command,
+            sizes,
+            writable,
+            curves,
+            functions,
+            groups,
+            values,
+            blocks,
+            message,
+            reply,
+            at,
+        );
+    }
+    unanswered(check, command, message)
+}
+
+// A message that was judged is carried out, and then answered: what is said is said out of what it leaves.
+fn fulfil(
+    due: bool,
+    verdict: Verdict,
+    sizes: &[u8],
+    writable: u64,
+    curves: &[u32],
+    functions: &[u8],
+    groups: &[u64],
+    values: &mut [u8],
+    blocks: &mut [u8],
+    message: &[u8],
+    reply: &mut [u8],
+    at: usize,
+) -> Served
+    requires { let l = lentLayout (now sizes) writable (now curves) (now functions) in
+        ⌜ SoundBoard l (lent (now values) (now blocks) (now groups)) × (at + 4099 ≤ length (now reply)) ⌝ }
+    requires { ⌜ Judged (lentLayout (now sizes) writable (now curves) (now functions)) (now groups) (now message) (verdict .command) (verdict .check) ⌝ }
+    ensures { λ r. let l = lentLayout (now (sizes .entry)) writable (now (curves .entry)) (now (functions .entry)) in
+        let x = lent (now (values .entry)) (now (blocks .entry)) (now (groups .entry)) in
+        let y = lent (now (values .exit)) (now (blocks .exit)) (now (groups .entry)) in
+        let m = now (message .entry) in
+        ⌜ Fulfilled due l m (verdict .check) x (now (reply .entry)) at (r .said) (r .regroup) (now (reply .exit)) y ⌝ }
+{
+    let regroup = carry_out(
+        verdict,
+        sizes,
+        writable,
+        curves,
+        functions,
+        groups,
+        values,
+        blocks,
+        message,
+    );
+    let said = say(
+        due,
+        verdict,
+        sizes,
+        writable,
+        curves,
+        functions,
+        groups,
+        values,
+        blocks,
+        message,
+        reply,
+        at,
+    );
+    Served { said, regroup }
 }
 
 // A message on a usable board, over what is lent. An answer's payload goes into the reply from `at` on.
@@ -202,7 +291,10 @@ pub fn serve(
         let y = lent (now (values .exit)) (now (blocks .exit)) (now (groups .entry)) in
         ⌜ ServedAs due l busy (now (message .entry)) x (now (reply .entry)) at (r .said) (r .regroup) (now (reply .exit)) y ⌝ }
 {
-    let p = perform(
+    let verdict = judge(sizes, writable, curves, functions, groups, message, busy);
+    fulfil(
+        due,
+        verdict,
         sizes,
         writable,
         curves,
@@ -211,26 +303,7 @@ pub fn serve(
         values,
         blocks,
         message,
-        busy,
-    );
-    let v = p.check;
-    let regroup = p.regroup;
-    if due {
-        let said = respond(
-            v,
-            sizes,
-            writable,
-            curves,
-            functions,
-            groups,
-            values,
-            blocks,
-            message,
-            reply,
-            at,
-        );
-        return Served { said, regroup };
-    }
-    let said = unanswered(v, message);
-    Served { said, regroup }
+        reply,
+        at,
+    )
 }

@@ -19,7 +19,7 @@ change-spec =
     (λ c. search needs) (λ c. search (group-mask-operation, needs)) (λ c κs. search needs) (λ c κs. (search needs, search (group-mask-needs, needs)))
     (λ c. search needs) (λ c κs. (search needs, search (write-read-needs, needs)))
     (λ c. search needs) (λ c κs. search (make-needs, needs))
-    (λ c. search needs)
+    (λ c. search needs) (λ c κs. search needs)
     (λ c. search needs) (λ c κs. (search needs, search (block-needs, needs)))
     (λ c. search needs) (λ c. search needs) (λ c. search needs) (λ c. search needs) (λ c. search needs) (λ c. search needs)
     (λ c. search needs) (λ c. search needs) (λ c. search needs) (λ c. search needs) (λ c. search needs)

@@ -9,5 +9,5 @@ judge-spec =
     tie.close
     (tie.spec
     (λ c. search (judge-short, needs)) (λ c. search needs) (λ c. search needs) (λ c κs. search needs) (λ c. search needs)
-    (λ c. search (judge-size, needs)) (λ c. search needs) (λ c κs. search needs) (λ c. search needs) (λ c. search needs) (λ c. search needs)
+    (λ c. search (judge-size, needs)) (λ c. search needs) (λ c. search needs) (λ c. search needs)
     (λ c κs. search needs) (λ c. search (judge-rest, needs)))
