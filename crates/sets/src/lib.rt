@@ -165,7 +165,7 @@ pub fn read_members(sizes: &[u8], set: u64, values: &[u8], reply: &mut [u8], at:
 // The n bytes of variable i changed by the payload's, if it's a member; answers the next place in the payload.
 fn change_turn(
     set: u64,
-    i: VariableNumber,
+    variable: VariableNumber,
     values: &mut [u8],
     at: usize,
     n: usize,
@@ -173,11 +173,11 @@ fn change_turn(
     payload: &[u8],
     from: usize,
 ) -> usize
-    requires { ⌜ (i .0 < 64) × (at + n ≤ length (now values)) × (from + cond (marked set i) n 0 ≤ length (now payload)) ⌝ }
+    requires { ⌜ (variable .0 < 64) × (at + n ≤ length (now values)) × (from + cond (marked set variable) n 0 ≤ length (now payload)) ⌝ }
     ensures { λ r. let value = changed op (part (now (values .entry)) at n) (part (now (payload .entry)) from n) in
-        ⌜ Turned (marked set i) n value (now (values .entry)) at from r (now (values .exit)) ⌝ }
+        ⌜ Turned (marked set variable) n value (now (values .entry)) at from r (now (values .exit)) ⌝ }
 {
-    if is_marked(set, i) {
+    if is_marked(set, variable) {
         lists::change_value(values, at, n, op, payload, from);
         return from + n;
     }
