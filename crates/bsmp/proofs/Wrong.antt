@@ -11,7 +11,7 @@ use lib.ListN.{length, length-append, length-map}
 use lib.Pow.{pow-mono}
 use lib.Seq.{take-at}
 use borrow.Author.Tests.{eq-eqb, eqb-false, le-ltb, lt-ltb, lt-leb, leb-true}
-use Rattle.bsmp.specs.Base.{sum, some, byteAt, word}
+use Rattle.bsmp.specs.Base.{sum, some, byteAt}
 use Rattle.bsmp.specs.Board.{variable, Table, layout, State, withGroups, setOf, variableRules, usable, usableVariables, faults}
 use Rattle.bsmp.specs.Message.{line, messageOf, check, judge, asked, spoken, said, stateAfter, after, carried, handled}
 use Rattle.bsmp.specs.Codes.{commandOf}
@@ -22,7 +22,6 @@ use Rattle.bsmp.specs.declared.VariableNumber.{VariableNumber}
 use Rattle.bsmp.specs.declared.Variable.{Variable}
 use Rattle.bsmp.specs.declared.Check.the-variants.{Pass}
 use Rattle.bsmp.proofs.Bools.{and-true, all-at}
-use Rattle.bsmp.proofs.Lists.{sum-append}
 use Rattle.bsmp.proofs.Chain.{clear, first-clear}
 use Rattle.bsmp.proofs.Usable.{usable-parts, usable-clear}
 use Rattle.bsmp.proofs.Room.{packed-sum}

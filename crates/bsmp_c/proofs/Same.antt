@@ -6,7 +6,7 @@ use Prim.Native.Nat.{ℕ, _<_}
 use native.Mathlib.Omega.{arith}
 use lib.IntN.{ℤ}
 use lib.ListN.{length}
-use Rattle.bsmp.specs.Board.{layout, blockSizes, usable, usableVariables, variable}
+use Rattle.bsmp.specs.Board.{layout, blockSizes, usable, usableVariables}
 use Rattle.bsmp.specs.Packet.{Result, refuse, packet, functionResult, boardStore}
 use Rattle.bsmp.specs.Number.{Reading, Written, reading, writing}
 use Rattle.bsmp.specs.declared.Variable.{Variable}
@@ -25,7 +25,7 @@ use Rattle.results.specs.declared.Stored.the-variants as S
 use Rattle.readings.specs.Answers.{writingLeftOf}
 use Rattle.columns.specs.Columns.{columnsOf}
 use Rattle.columns.proofs.Columns.{columns-same}
-use Rattle.plain.specs.Lending.{Lending, tableIn, lentIn, heldIn}
+use Rattle.plain.specs.Lending.{Lending, tableIn, heldIn}
 use Rattle.plain.specs.Numbers.{plainOutcomeOf, plainReadingOf}
 use Rattle.plain.specs.Calls.{PlainPacketLeft, plainPacketLeft, plainPacketLeftOf, packetOf, PlainResultLeft, plainResultLeftOf, resultOf, PlainBytesLeft, plainStoreLeftOf, plainWritingLeftOf, storeOf, writingOf, readingOf}
 

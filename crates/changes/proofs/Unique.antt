@@ -7,7 +7,7 @@ use native.Mathlib.Omega.{arith}
 use lib.ListN.{length, getD, length-append}
 use lib.Seq.{getD-append-add}
 use Rattle.bsmp.specs.Board.{Layout, State, blockSizes}
-use Rattle.bsmp.specs.Store.{Lent, held}
+use Rattle.bsmp.specs.Store.{Lent}
 use Rattle.bsmp.proofs.Store.{cut-unique}
 use Rattle.changes.specs.Changes.{regrouped, LeftAs}
 use Rattle.changes.specs.declared.Regroup.{Regroup}

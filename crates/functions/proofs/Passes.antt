@@ -2,16 +2,15 @@
 use mathlib.Core.Path.{_≡_}
 use mathlib.Core.Bool.{false}
 use mathlib.Core.List.{List}
-use Prim.Native.Nat.{ℕ, _+_, _<_}
+use Prim.Native.Nat.{ℕ, _<_}
 use lib.ListN.{length}
-use borrow.Author.Tests.{ltb-true, ltb-false, eqb-true, not-false}
-use Rattle.bsmp.specs.Board.{functionOf}
+use borrow.Author.Tests.{ltb-true, ltb-false, not-false}
 use Rattle.bsmp.specs.Message.{functionAt, line, testsOf}
 use Rattle.bsmp.specs.declared.Curve.{Curve}
 use Rattle.bsmp.specs.declared.Function.{Function}
 use Rattle.bsmp.specs.declared.Command.the-variants.{RunFunction}
 use Rattle.bsmp.proofs.Chain.{broken-at, clear-at}
-use Rattle.parts.specs.Parts.{layoutOf, functionsOnly, Passed}
+use Rattle.parts.specs.Parts.{layoutOf, Passed}
 use Rattle.parts.proofs.Passed.{passed-clear}
 
 module _ (ns : List ℕ) (w : ℕ) (cs : List Curve) (fs : List Function) (gs p : List ℕ) (h : Passed (layoutOf ns w cs fs) gs p RunFunction) where
@@ -26,10 +25,3 @@ module _ (ns : List ℕ) (w : ℕ) (cs : List Curve) (fs : List Function) (gs p 
   pub run-named : functionAt p 0 .0 < length fs
   unfolding line
   run-named = ltb-true _ _ (not-false _ (passed-at 1))
-
-  pub run-whole : length p ≡ 1 + functionOf (functionsOnly fs) (functionAt p 0) .input
-  unfolding line
-  run-whole = eqb-true _ _ (not-false _ (passed-at 2))
-
-  pub run-known : (0 < length p) × (functionAt p 0 .0 < length fs) × (length p ≡ 1 + functionOf (functionsOnly fs) (functionAt p 0) .input)
-  run-known = (run-some, run-named, run-whole)

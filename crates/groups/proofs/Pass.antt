@@ -5,7 +5,7 @@ use mathlib.Core.List.{List, map}
 use Prim.Native.Nat.{ℕ, _+_, _≤_, _<_}
 use native.Mathlib.Omega.{arith}
 use lib.ListN.{length}
-use borrow.Author.Tests.{ltb-true, ltb-false, leb-false, eqb-true, not-false}
+use borrow.Author.Tests.{ltb-true, ltb-false, eqb-true, not-false}
 use Rattle.bsmp.specs.Board.{Layout, variable, members, groupBytes, setOf}
 use Rattle.bsmp.specs.Message.{line, testsOf, writesGroup, size≠, size<, noGroup, groupAt}
 use Rattle.bsmp.specs.declared.Curve.{Curve}
@@ -64,10 +64,6 @@ module _ (ns : List ℕ) (w : ℕ) (cs : List Curve) (fs : List Function) (gs p 
   pub make-known : Passes MakeGroup → Below (length ns) p
   unfolding line
   make-known h = known-below (length ns) p (passes _ gs p MakeGroup h 1)
-
-  pub make-room : Passes MakeGroup → length gs < 5
-  unfolding line
-  make-room h = leb-false _ _ (passes _ gs p MakeGroup h 4)
 
   -- so `sets::set_of` may be asked for the new group's set, and answers it
   pub make-below : Passes MakeGroup → length ns ≤ 64 → Below 64 p

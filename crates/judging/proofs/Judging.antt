@@ -60,17 +60,11 @@ module _ (l : Layout) (gs : List ℕ) (busy : ℕ) (m : List ℕ) where
   pub message-long : (v : Check) → v ≡ judge l gs busy m → v ≡ Pass → 3 ≤ length m
   message-long v h e = ltb-false _ _ (or-false (ltb (length m) 3) _ (clear-at (formTests m) (judge-pass (sym h ∙ e) .0) 0) .0)
 
-  pub message-some : (v : Check) → v ≡ judge l gs busy m → v ≡ Pass → 0 < length m
-  message-some v h e = omega (arith, message-long v h e)
-
   pub message-passed : (v : Check) (k : Command) → v ≡ judge l gs busy m → v ≡ Pass → k ≡ commandOf (byteAt m 0) → Passed l gs (midOf 3 (length m - 3) m) k
   message-passed v k h e f = record { marks = busy; passes = rw (f, mid-rest 3 m) (judge-pass (sym h ∙ e) .1) }
 
 -- the same of a judgement under some busy marks, for what responds to it
 module _ (l : Layout) (gs m : List ℕ) (v : Check) where
-  pub judged-some : Judgement l gs m v → v ≡ Pass → 0 < length m
-  judged-some j e = message-some l gs (j .marks) m v (j .judged) e
-
   pub judged-long : Judgement l gs m v → v ≡ Pass → 3 ≤ length m
   judged-long j e = message-long l gs (j .marks) m v (j .judged) e
 

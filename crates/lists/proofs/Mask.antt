@@ -11,7 +11,6 @@ use native.Mathlib.Omega.{arith}
 use Rattle.lists.specs.Put.{put, part}
 use Rattle.lists.proofs.Put.{put-nil, put-set, put-back, mid-rest, drop-one, length-part}
 use Rattle.bsmp.specs.declared.Operation.{Operation}
-use Rattle.bsmp.specs.declared.Operation.the-variants.{Replace}
 
 pub mask-nil : (op : Operation) (xs : List ℕ) → changed op xs [] ≡ []
 unfolding changed
@@ -45,14 +44,6 @@ pub mask-back : (a : ℕ) (op : Operation) (s m ys : List ℕ) → ys ≡ put (m
 mask-back a op s m ys e h =
     let l : a + length (changed op (drop a s) m) ≤ length s = simp (length-mask, length-drop) (omega arith) in
     put-back a s (changed op (drop a s) m) ys (e ∙ ap (λ (x : List ℕ). put (midOf a (length s - a) s) 0 (changed op x m)) (mid-rest a s)) l
-
--- a write is the operation that keeps nothing of the old byte
-pub mask-put : (xs ms : List ℕ) → length ms ≤ length xs → changed Replace xs ms ≡ ms
-unfolding changed operated
-mask-put [] [] h = refl
-mask-put [] (m ∷ ms) h = absurd (not-suc-le-zero h)
-mask-put (x ∷ xs) [] h = refl
-mask-put (x ∷ xs) (m ∷ ms) h = ap (λ (l : List ℕ). m ∷ l) (mask-put xs ms (le-of-suc-le-suc h))
 
 -- no more than the mask's length of the value counts
 pub mask-take : (op : Operation) (n : ℕ) (xs ms : List ℕ) → length ms ≤ n → changed op (take n xs) ms ≡ changed op xs ms

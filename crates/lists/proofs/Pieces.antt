@@ -5,9 +5,9 @@ use Prim.Native.Nat.{ℕ, zero, suc, _+_, _≤_, _<_}
 use native.Mathlib.Omega.{arith}
 use lib.ListN.{length, take, drop, set, getD, length-drop, take-append-drop}
 use lib.Seq.{take-at, drop-at, length-take-le, take-all}
-use Rattle.bsmp.specs.Base.{sum, cut, join}
+use Rattle.bsmp.specs.Base.{sum, cut}
 use Rattle.bsmp.specs.Board.{variable}
-use Rattle.bsmp.proofs.Store.{join-cut, piece}
+use Rattle.bsmp.proofs.Store.{piece}
 use Rattle.bsmp.specs.Message.{changed, edited}
 use Rattle.bsmp.specs.declared.Operation.{Operation}
 use Rattle.lists.proofs.Sum.{total-within}
@@ -36,10 +36,6 @@ cut-put (n ∷ ns) s (suc i) b h e k =
     ap (cut (n ∷ ns)) q
     ∙ ap₂ (λ (x y : List ℕ). x ∷ cut ns y) (take-at (take n s) (put (drop n s) a b) n l) (drop-at (take n s) (put (drop n s) a b) n l)
     ∙ ap (take n s ∷_) (cut-put ns (drop n s) i b (omega (arith, h)) e (simp length-drop (omega arith)))
-
-pub join-set : (ns s : List ℕ) (i : ℕ) (b : List ℕ) → i < length ns → length b ≡ getD ns i 0 → sum ns ≤ length s
-    → put s (sum (take i ns)) b ≡ join (set (cut ns s) i b)
-join-set ns s i b h e k = sym (join-cut ns (put s (sum (take i ns)) b)) ∙ ap join (cut-put ns s i b h e k)
 
 -- a value changed in its place by the bytes from f on, as the code leaves it
 module _ (op : Operation) (ns s p : List ℕ) (i f at : ℕ) (s′ : List ℕ) where

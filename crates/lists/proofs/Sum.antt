@@ -6,7 +6,7 @@ use native.Mathlib.Numerals.{add-one}
 use native.Mathlib.Omega.{arith}
 use lib.ListN.{length, take, drop, getD, drop-of-length-le}
 use Rattle.bsmp.specs.Base.{sum}
-use lib.Seq.{take-suc, drop-cons, take-add}
+use lib.Seq.{take-suc, drop-cons}
 
 pub total-nil : sum [] ≡ 0
 unfolding sum
@@ -29,10 +29,6 @@ total-drop l i h = rw (add-one, drop-cons l i 0, total-cons)
 pub total-take : (l : List ℕ) (i : ℕ) → i < length l → sum (take (i + 1) l) ≡ sum (take i l) + getD l i 0
 unfolding sum
 total-take l i h = rw (add-one, take-suc l i 0, total-append) (omega arith)
-
--- the first n add up to at most the first m, and those to at most all
-pub total-mono : (l : List ℕ) (n k : ℕ) → sum (take n l) ≤ sum (take (n + k) l)
-total-mono l n k = rw (take-add, total-append) (omega arith)
 
 pub total-split : (l : List ℕ) (n : ℕ) → sum (take n l) + sum (drop n l) ≡ sum l
 unfolding sum

@@ -157,7 +157,3 @@ module _ (big : Bool) (l : List ℕ) where
 
   pub signed-written : (u : ℕ) (z : ℤ) (x : List ℕ) → SFits w64 z → u ≡ unsignedOf (length l) (seen z) → x ≡ turned big (littleBytes (length l) u) → x ≡ bytesOf big (length l) z
   signed-written u z x f g e = e ∙ ap (λ (y : ℕ). turned big (littleBytes (length l) y)) (g ∙ ap (unsignedOf (length l)) (toZ-ofZ f))
-
--- what a call of `fits_signed` told its caller
-pub range-told : (z : ℤ) (n : ℕ) (w b : Bool) → SFits w64 z → w ≡ inRange true n (seen z) → w ≡ b → inRange true n z ≡ b
-range-told z n w b f e g = ap (inRange true n) (sym (toZ-ofZ f)) ∙ sym e ∙ g

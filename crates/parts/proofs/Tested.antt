@@ -5,10 +5,8 @@ use mathlib.Core.List.{List, [], _∷_}
 use Prim.Native.Nat.{ℕ}
 use borrow.Author.Tests.{lt-ltb, le-ltb, eq-eqb, ne-eqb, le-leb, lt-leb}
 use Rattle.bsmp.specs.Base.{Test, first}
-use Rattle.bsmp.specs.Board.{marked}
 use Rattle.bsmp.specs.Codes.{noOperation}
 use Rattle.bsmp.specs.Message.{isBusy, isFull, lastTests}
-use Rattle.bsmp.specs.declared.VariableNumber.{VariableNumber}
 use Rattle.bsmp.specs.declared.WireError.{WireError}
 use Rattle.bsmp.proofs.Chain.{first-next, first-stop, first-end}
 
@@ -26,10 +24,6 @@ or-right x y h k = rw (h, k)
 
 pub or-none : (x y : Bool) → x ≡ false → y ≡ false → (x || y) ≡ false
 or-none x y h k = rw (h, k)
-
--- what a callee answered, and the test of it
-pub marked-told : (m : ℕ) (i : VariableNumber) (w b : Bool) → w ≡ marked m i → w ≡ b → marked m i ≡ b
-marked-told m i w b h k = sym h ∙ k
 
 pub operation-told : (x : ℕ) (w b : Bool) → w ≡ noOperation x → w ≡ b → noOperation x ≡ b
 operation-told x w b h k = sym h ∙ k

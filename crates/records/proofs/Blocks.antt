@@ -10,10 +10,9 @@ use lib.Seq.{take-suc, split-at, getD-append-add}
 use mir.Syntax.{w64}
 use mir.Val.{Fits}
 use Rattle.bsmp.specs.Base.{sum}
-use Rattle.bsmp.specs.Board.{Layout, blankCurve, curveOf, blockPlace, blockSizes, usableCurves}
+use Rattle.bsmp.specs.Board.{blankCurve, blockSizes, usableCurves}
 use Rattle.bsmp.specs.Store.{start}
 use Rattle.bsmp.specs.declared.Curve.{Curve}
-use Rattle.bsmp.specs.declared.CurveNumber.{CurveNumber}
 use Rattle.bsmp.proofs.Store.{curve-bytes}
 use Rattle.lists.proofs.Sum.{total-append, total-within}
 use Rattle.lists.proofs.Blocks.{block-start}
@@ -99,7 +98,3 @@ module _ (cs : List Curve) (c k : ℕ) (x : Curve) (h : c < length cs) (e : x �
   -- and the store has room for it
   pub block-room : (curveBytes (take c cs) + k * x .size) + x .size ≤ curveBytes cs
   block-room = omega (arith, total-within (blockSizes cs) place block-inside, block-at, block-size, curve-bytes cs)
-
-pub block-of : (l : Layout) (c : CurveNumber) (k : ℕ) → c .0 < length (l .curves) → k < curveOf l c .blocks
-    → start (blockSizes (l .curves)) (blockPlace l c k) ≡ curveBytes (take (c .0) (l .curves)) + k * curveOf l c .size
-block-of l c k h b = block-at (l .curves) (c .0) k (curveOf l c) h refl b

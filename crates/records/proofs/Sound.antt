@@ -8,7 +8,7 @@ use lib.Dec.{leb}
 use lib.ListN.{length, getD}
 use borrow.Author.Tests.{leb-true, ltb-true}
 use Rattle.bsmp.specs.Base.{sum, every}
-use Rattle.bsmp.specs.Board.{Table, blankCurve, blankFunction, layout, sizesOf, blockSizes, usableVariable, variableRules, usableVariables, usableCurve, curveRules, usableCurves, usableFunctions, usableGroups, usable}
+use Rattle.bsmp.specs.Board.{Table, blankCurve, blankFunction, layout, sizesOf, blockSizes, variableRules, usableVariables, usableCurve, curveRules, usableCurves, usableFunctions, usableGroups, usable}
 use Rattle.bsmp.specs.Store.{Lent, held}
 use Rattle.bsmp.specs.declared.Variable.{Variable}
 use Rattle.bsmp.specs.declared.Curve.{Curve}
@@ -17,8 +17,7 @@ use Rattle.bsmp.proofs.Bools.{and-true, all-at}
 use Rattle.bsmp.proofs.Store.{store-length, lengths-cut}
 use Rattle.bsmp.proofs.Usable.{usable-parts, usable-whole}
 use Rattle.records.specs.Checks.{curveBytes}
-use Rattle.records.proofs.Lending.{noVariable}
-use Rattle.records.proofs.Checks.{inside, variable-rules, curve-rules, usableFunction, usableGroup}
+use Rattle.records.proofs.Checks.{inside, curve-rules, usableFunction, usableGroup}
 
 pub record Sound (t : Table) (x : Lent) : Type 0 where
   pub variables : usableVariables (t .variables) ≡ true
@@ -56,10 +55,6 @@ every-at f (x ∷ xs) zero d u h = and-true (f x) (every f xs) u .0
 every-at f (x ∷ xs) (suc i) d u h = every-at f xs i d (and-true (f x) (every f xs) u .1) (omega (arith, h))
 
 module _ (vs : List Variable) (u : usableVariables vs ≡ true) where
-  pub variables-some : 1 ≤ length vs
-  unfolding usableVariables
-  variables-some = inside 1 64 (length vs) (all-at (variableRules vs) u 0) .0
-
   pub variables-most : length vs ≤ 64
   unfolding usableVariables
   variables-most = inside 1 64 (length vs) (all-at (variableRules vs) u 0) .1
@@ -67,10 +62,6 @@ module _ (vs : List Variable) (u : usableVariables vs ≡ true) where
   pub variables-small : sum (sizesOf vs) ≤ 4096
   unfolding usableVariables
   variables-small = leb-true _ _ (all-at (variableRules vs) u 2)
-
-  pub variable-size : (i : ℕ) → i < length vs → (1 ≤ getD vs i noVariable .size) × (getD vs i noVariable .size ≤ 127)
-  unfolding usableVariables
-  variable-size i h = variable-rules (getD vs i noVariable) (every-at usableVariable vs i noVariable (all-at (variableRules vs) u 1) h) .1
 
 module _ (cs : List Curve) (u : usableCurves cs ≡ true) where
   pub curves-most : length cs ≤ 8
@@ -88,9 +79,6 @@ module _ (cs : List Curve) (u : usableCurves cs ≡ true) where
 
     pub curve-size : (1 ≤ getD cs c blankCurve .size) × (getD cs c blankCurve .size ≤ 4096)
     curve-size = curve-rules (getD cs c blankCurve) usable-here .0
-
-    pub curve-blocks : (1 ≤ getD cs c blankCurve .blocks) × (getD cs c blankCurve .blocks ≤ 65536)
-    curve-blocks = curve-rules (getD cs c blankCurve) usable-here .1
 
 module _ (fs : List Function) (u : usableFunctions fs ≡ true) where
   pub functions-most : length fs ≤ 16

@@ -2,14 +2,12 @@
 use mathlib.Core.Path.{_≡_, refl, ap, _∙_, subst}
 use mathlib.Core.Bool.{Bool, true, false}
 use mathlib.Core.List.{List}
-use Prim.Native.Nat.{ℕ, _+_, _-_, _≤_}
-use native.Mathlib.Omega.{arith}
+use Prim.Native.Nat.{ℕ, _-_, _≤_}
 use borrow.Rule.Slice.PartMut.{midOf}
 use lib.ListN.{length}
-use Rattle.bsmp.specs.Base.{byteAt}
 use Rattle.bsmp.specs.Board.{Layout, State, withValues, withBlocks}
-use Rattle.bsmp.specs.Codes.{commandOf, errorCode}
-use Rattle.bsmp.specs.Message.{Answer, say, tell, show, call, Line, line, judge, asked, Said, spoken, said, stateAfter, carried, handled}
+use Rattle.bsmp.specs.Codes.{errorCode}
+use Rattle.bsmp.specs.Message.{Answer, say, tell, show, call, Line, line, asked, Said, spoken, said, stateAfter, carried, handled}
 use Rattle.bsmp.specs.Store.{Lent, held}
 use Rattle.bsmp.specs.declared.WireError.{WireError}
 use Rattle.bsmp.specs.declared.Command.{Command}

@@ -1,8 +1,8 @@
 -- A group's set and its members, as the code finds them and as the board's definition has them. Assumes nothing.
-use mathlib.Core.Path.{_≡_, refl, sym, ap, ap₂, _∙_}
-use mathlib.Core.Bool.{Bool, true, false, not, cond}
-use mathlib.Core.List.{List, _∷_, map}
-use Prim.Native.Nat.{ℕ, zero, suc, _+_, _-_, _%_, _^_, _≤_, _<_}
+use mathlib.Core.Path.{_≡_, sym, ap, _∙_}
+use mathlib.Core.Bool.{Bool, true, false, cond}
+use mathlib.Core.List.{List, map}
+use Prim.Native.Nat.{ℕ, _+_, _-_, _%_, _^_, _≤_, _<_}
 use native.Mathlib.Omega.{arith}
 use lib.Dec.{eqb}
 use borrow.Author.Tests.{ne-eqb}
@@ -11,7 +11,6 @@ use Rattle.bsmp.specs.Base.{upFrom, only, cut}
 use Rattle.bsmp.specs.Board.{Layout, variable, sizeOf, marked, inGroup, members, groupBytes}
 use Rattle.bsmp.specs.Message.{edited, valuesOf}
 use Rattle.bsmp.specs.declared.Operation.{Operation}
-use Rattle.bsmp.specs.declared.VariableNumber.{VariableNumber}
 use Rattle.bsmp.specs.declared.GroupNumber.{GroupNumber}
 use Rattle.sets.specs.Members.{membersBelow, membersOf, sizeAt, setBytes, groupSet}
 use Rattle.sets.specs.Promises.{GroupSet, BytesAt}

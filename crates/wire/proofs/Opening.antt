@@ -102,9 +102,6 @@ module _ (own mc : ℕ) (p : List ℕ) (o : Opened) (d : Bool) (h : o ≡ opened
   pub message-start : 1 ≤ length p - 1
   message-start = omega (arith, message-least)
 
-  pub message-most : length p ≤ 4104
-  message-most = ltb-false _ _ (sized .1)
-
 -- and that part is the message
 pub message-lent : (p : List ℕ) → midOf 1 (length p - 1 - 1) p ≡ message p
 message-lent p =
