@@ -1,4 +1,4 @@
--- 01's numbers for commands, operations, kinds, wire errors and local refusals. Assumes nothing.
+-- 01's numbers for commands, operations, wire errors and local refusals, and ours for kinds. Assumes nothing.
 use mathlib.Core.Bool.{Bool, true, false, cond}
 use mathlib.Core.List.{List, [], _∷_}
 use Prim.Native.Nat.{ℕ}
