@@ -10,4 +10,5 @@ pub mod packets;
 pub mod random;
 pub mod run;
 pub mod second;
+pub mod second_lent;
 pub mod whatif;
