@@ -8,6 +8,7 @@ pub mod lent;
 pub mod measured;
 pub mod packets;
 pub mod random;
+pub mod records;
 pub mod run;
 pub mod second;
 pub mod second_lent;
