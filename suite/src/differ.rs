@@ -10,10 +10,10 @@ use crate::guard::Edge;
 use crate::lent::Lent;
 use crate::random::Random;
 use crate::second;
+use crate::second_lent::SecondLent;
 use calls::{draw, Call};
 use cruachvel::{Outcome, Refusal};
 use proved_side::Proved;
-use second_side::Second;
 use std::fmt;
 pub use tally::Tally;
 
@@ -123,7 +123,7 @@ impl Differ {
         let lent = self.lent();
         let edge = self.random.choose(&[Edge::Start, Edge::End]);
         self.proved.take(edge, &lent);
-        let mut second = Second::new(&lent);
+        let mut second = SecondLent::new(&lent);
         let large = lent.blocks.len() > 8192;
         let most = if large { 40 } else { 400 };
         for _ in 0..self.random.within(1, most) {
@@ -168,7 +168,7 @@ impl Differ {
         lent
     }
 
-    fn call(&mut self, second: &mut Second) -> Result<(), Difference> {
+    fn call(&mut self, second: &mut SecondLent) -> Result<(), Difference> {
         let call = draw(&mut self.random, second);
         if second.buffer.len() != call.room {
             second.buffer.resize(call.room, 0xA5);
@@ -176,7 +176,7 @@ impl Differ {
         }
         self.proved.given.put(self.proved.edge, &call.given);
         let told = self.proved.call(&call.entry);
-        let ending = second.call(&call.entry, &call.given);
+        let ending = second_side::call(second, &call.entry, &call.given);
         if let Some(what) = self.proved.differing(second, &call, &told, &ending) {
             return Err(self.difference(second, &call, &told, &ending, what));
         }
@@ -186,7 +186,7 @@ impl Differ {
 
     fn difference(
         &self,
-        second: &Second,
+        second: &SecondLent,
         call: &Call,
         told: &Ending,
         ending: &Ending,

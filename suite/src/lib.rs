@@ -8,6 +8,8 @@ pub mod lent;
 pub mod measured;
 pub mod packets;
 pub mod random;
+pub mod records;
 pub mod run;
 pub mod second;
+pub mod second_lent;
 pub mod whatif;

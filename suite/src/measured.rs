@@ -2,7 +2,7 @@
 use crate::boards::board_a;
 use crate::lent::Lent;
 use crate::packets::{message, packet};
-use crate::second;
+use crate::{second, second_lent};
 use cruachvel::{Address, Curve, Groups, Kind, Outcome, Variable, MOST_PACKET};
 
 /// A packet on a board.
@@ -145,7 +145,7 @@ impl Side for Proved {
     }
 }
 
-/// The second node.
+/// The second node, with nothing between it and what is measured.
 pub struct Second {
     lent: Lent,
     variables: Vec<second::Variable>,
@@ -157,17 +157,9 @@ pub struct Second {
 impl Second {
     pub fn new(measured: &Measured) -> Second {
         let lent = measured.lent.clone();
-        let variable = |record: &Variable| second::Variable {
-            writable: record.writable,
-            size: record.size,
-            kind: record.kind,
-        };
         Second {
-            variables: lent.variables.iter().map(variable).collect(),
-            groups: second::Groups {
-                count: lent.groups.count,
-                sets: lent.groups.sets,
-            },
+            variables: second_lent::variables(&lent),
+            groups: second_lent::groups(&lent),
             request: measured.request.clone(),
             reply: vec![0; MOST_PACKET],
             lent,
@@ -182,14 +174,10 @@ impl Side for Second {
             curves: &self.lent.curves,
             functions: &self.lent.functions,
         };
-        let address = second::Address {
-            own: self.lent.address.own,
-            multicast: self.lent.address.multicast,
-        };
         let outcome = second::packet(
             &table,
             &mut self.groups,
-            address,
+            second_lent::address(&self.lent),
             0,
             &mut self.lent.values,
             &mut self.lent.blocks,

@@ -4,6 +4,7 @@ use std::path::Path;
 use suite::boards::board_a;
 use suite::packets::Drawer;
 use suite::random::Random;
+use suite::records::{record, SAMPLE, SAMPLE_LINES};
 use suite::run::printed;
 
 fn bench() -> String {
@@ -63,10 +64,6 @@ fn lines(input: &[u8]) -> Vec<String> {
     lines
 }
 
-fn record(packet: &[u8]) -> Vec<u8> {
-    [&(packet.len() as u16).to_be_bytes()[..], packet].concat()
-}
-
 // Records for board A: packets aimed at it, and noise.
 fn drawn(random: &mut Random, count: usize) -> Vec<u8> {
     let mut lent = board_a();
@@ -90,20 +87,8 @@ fn drawn(random: &mut Random, count: usize) -> Vec<u8> {
 
 #[test]
 fn the_example_of_01() {
-    let packets: [&[u8]; 3] = [
-        &[0x05, 0x10, 0x00, 0x01, 0x00, 0xEA],
-        &[0xF8, 0x20, 0x00, 0x02, 0x01, 0x66, 0x7F],
-        &[0x05, 0x10, 0x00, 0x01, 0x01, 0xE9],
-    ];
-    let input: Vec<u8> = packets.into_iter().flat_map(record).collect();
-    assert_eq!(
-        lines(&input),
-        [
-            "1 answer 00110004FFFFFFFDF1",
-            "2 silent",
-            "3 answer 001100016688"
-        ]
-    );
+    let expected: Vec<&str> = SAMPLE_LINES.lines().collect();
+    assert_eq!(lines(SAMPLE), expected);
 }
 
 #[test]

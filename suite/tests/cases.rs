@@ -1,7 +1,8 @@
-//! docs/WHAT-IF.md: every case holds on the proved code, the page is what they make, and a line that is not so is found.
+//! docs/WHAT-IF.md: every case holds on both nodes, the page is what they make, and a line that is not so is found.
 use std::path::{Path, PathBuf};
 use suite::boards::board_a;
-use suite::cases::{boards, made, misquoted, parse, read, run, same, Boards, DOCS};
+use suite::cases::{boards, examples, made, misquoted, parse, proved, read, run, run_all, same};
+use suite::cases::{second, Boards, DOCS};
 use suite::whatif::{board_file, quotes};
 
 fn docs() -> &'static Path {
@@ -19,6 +20,14 @@ fn every_case_holds_and_the_page_is_what_they_make() {
         made(docs(), document.as_deref()).unwrap_or_else(|lines| panic!("{}", lines.join("\n")));
     let page = read(&docs().join("WHAT-IF.md")).expect("the page");
     assert_eq!(same(&page, &made), Ok(()));
+}
+
+#[test]
+fn every_case_holds_on_the_second_node() {
+    let text = read(&docs().join("what-if.cases")).expect("the cases");
+    let cases = parse(&text).expect("cases that can be read");
+    let ran = run_all(&cases, &all_boards(), second);
+    ran.unwrap_or_else(|lines| panic!("{}", lines.join("\n")));
 }
 
 #[test]
@@ -55,7 +64,9 @@ says The way back";
 
 fn wrong(text: &str) -> Vec<String> {
     let cases = parse(text).expect("a case that can be read");
-    run(&cases[0], &all_boards()).err().unwrap_or_default()
+    run(&cases[0], &all_boards(), proved)
+        .err()
+        .unwrap_or_default()
 }
 
 const CHANGES: &[(&str, &str, &str)] = &[
@@ -166,7 +177,7 @@ fn a_case_that_says_too_little_is_found() {
 }
 
 const MISTAKES: &[(&str, &str)] = &[
-    ("board a", "line 1: no question was asked yet"),
+    ("board a", "line 1: no question stands before this line"),
     (
         "question What?\nsilence",
         "line 2: no call stands before this line",
@@ -204,12 +215,33 @@ const MISTAKES: &[(&str, &str)] = &[
         "line 2: a function fails with one error byte",
     ),
     ("question What?\nbusy 64", "line 2: \"64\" is no variable"),
+    ("example", "line 1: \"example\" is no keyword"),
+];
+
+const MISTAKES_IN_EXAMPLES: &[(&str, &str)] = &[
+    ("# none\n", "there is no example"),
+    ("packet 05 FB", "line 1: no example stands before this line"),
+    (
+        "example Q\npacket 05 FB",
+        "line 1: an example is marked P or not, and not \"Q\"",
+    ),
+    (
+        "example\n\nexample P\npacket 05 FB",
+        "line 1: the example has no call",
+    ),
+    (
+        "example\nquestion What?",
+        "line 2: \"question\" is no keyword",
+    ),
 ];
 
 #[test]
 fn mistakes_in_a_file_of_cases_are_told_with_their_line() {
     for (lines, message) in MISTAKES {
         assert_eq!(parse(lines).expect_err(lines), *message);
+    }
+    for (lines, message) in MISTAKES_IN_EXAMPLES {
+        assert_eq!(examples(lines).expect_err(lines), *message);
     }
 }
 

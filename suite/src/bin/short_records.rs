@@ -5,6 +5,7 @@ use std::process::exit;
 use suite::boards::board_a;
 use suite::packets::Drawer;
 use suite::random::Random;
+use suite::records::record;
 
 const DRAWN: usize = 1_000_000;
 
@@ -44,8 +45,7 @@ fn drawn(bytes: usize) -> Vec<u8> {
         };
         let (request, _) = drawer.packet();
         lent.packet(0, &request, &mut [0; cruachvel::MOST_PACKET]);
-        records.extend((request.len() as u16).to_be_bytes());
-        records.extend(request);
+        records.extend(record(&request));
     }
     records
 }

@@ -1,7 +1,7 @@
-//! How a file of cases is read. Each line is a keyword and what belongs to it.
+//! How a file of cases is read: questions or settled examples. Each line is a keyword and what belongs to it.
 use crate::whatif::bytes::bytes;
 
-/// A question with all that answers it.
+/// A question with all that answers it, or an example, which has calls on board A alone.
 #[derive(Clone, Debug, Default)]
 pub struct Case {
     pub line: usize,
@@ -56,9 +56,34 @@ const OUTCOMES: [&str; 7] = [
 ];
 const STATES: [&str; 6] = ["step", "unchanged", "variable", "reads", "block", "group"];
 
-/// The cases of a file, or the line and what is wrong with it.
+/// The questions of a file, or the line and what is wrong with it.
 pub fn parse(text: &str) -> Result<Vec<Case>, String> {
-    let mut reader = Reader::default();
+    let cases = cases(text, "question")?;
+    cases.iter().try_for_each(complete)?;
+    Ok(cases)
+}
+
+/// The examples of a file, or the line and what is wrong with it. A file without any is wrong too.
+pub fn examples(text: &str) -> Result<Vec<Case>, String> {
+    let cases = cases(text, "example")?;
+    if cases.is_empty() {
+        return Err("there is no example".to_string());
+    }
+    match cases.iter().find(|case| case.acts.is_empty()) {
+        Some(case) => Err(format!("line {}: the example has no call", case.line)),
+        None => Ok(cases),
+    }
+}
+
+// The cases of a file in which each starts with this keyword.
+fn cases(text: &str, start: &'static str) -> Result<Vec<Case>, String> {
+    let mut reader = Reader {
+        start,
+        line: 0,
+        section: String::new(),
+        busy: 0,
+        cases: Vec::new(),
+    };
     for (place, line) in text.lines().enumerate() {
         let line = line.trim();
         if line.is_empty() || line.starts_with('#') {
@@ -70,7 +95,6 @@ pub fn parse(text: &str) -> Result<Vec<Case>, String> {
             .take(keyword, rest.trim())
             .map_err(|message| format!("line {}: {}", place + 1, message))?;
     }
-    reader.cases.iter().try_for_each(complete)?;
     Ok(reader.cases)
 }
 
@@ -89,8 +113,8 @@ fn complete(case: &Case) -> Result<(), String> {
     Err(format!("line {}: the question has no {}", case.line, lacks))
 }
 
-#[derive(Default)]
 struct Reader {
+    start: &'static str,
     line: usize,
     section: String,
     busy: u64,
@@ -101,7 +125,7 @@ impl Reader {
     fn take(&mut self, keyword: &str, rest: &str) -> Result<(), String> {
         match keyword {
             "section" => self.section = rest.to_string(),
-            "question" => self.question(rest),
+            start if start == self.start => self.start(rest)?,
             "answer" => self.case()?.answer.push(rest.to_string()),
             "board" => self.case()?.board = rest.to_string(),
             "with" => self.case()?.with.push(rest.to_string()),
@@ -119,20 +143,28 @@ impl Reader {
         Ok(())
     }
 
-    fn question(&mut self, question: &str) {
+    fn start(&mut self, rest: &str) -> Result<(), String> {
+        let (question, board) = match (self.start, rest) {
+            ("question", question) => (question, ""),
+            (_, "" | "P") => ("", "a"),
+            _ => return Err(format!("an example is marked P or not, and not {:?}", rest)),
+        };
         self.busy = 0;
         self.cases.push(Case {
             line: self.line,
             section: self.section.clone(),
             question: question.to_string(),
+            board: board.to_string(),
             ..Case::default()
         });
+        Ok(())
     }
 
     fn case(&mut self) -> Result<&mut Case, String> {
+        let start = self.start;
         self.cases
             .last_mut()
-            .ok_or_else(|| "no question was asked yet".to_string())
+            .ok_or_else(|| format!("no {} stands before this line", start))
     }
 
     fn act(&mut self, keyword: &str, rest: &str) -> Result<(), String> {

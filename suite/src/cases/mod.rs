@@ -1,10 +1,12 @@
 //! The cases of docs/what-if.cases: questions about the node, each with calls that are run on the proved code, what they end in, and
-//! 01's sentence. docs/WHAT-IF.md is made from them.
+//! 01's sentence. docs/WHAT-IF.md is made from them. docs/settled.examples has calls alone.
 mod file;
+mod nodes;
 mod page;
 mod run;
 
-pub use file::{parse, Act, Call, Case};
+pub use file::{examples, parse, Act, Call, Case};
+pub use nodes::{proved, second, Came, Node};
 pub use page::page;
 pub use run::{run, Ran};
 
@@ -45,7 +47,7 @@ pub fn made(docs: &Path, document: Option<&Path>) -> Result<(String, usize), Vec
     let text = read(&docs.join("what-if.cases")).map_err(one)?;
     let cases = parse(&text).map_err(named).map_err(one)?;
     let boards = boards(&docs.join("boards")).map_err(one)?;
-    let ran = run_all(&cases, &boards).map_err(all)?;
+    let ran = run_all(&cases, &boards, proved).map_err(all)?;
     let wrong = match document {
         Some(path) => misquoted(&cases, &read(path).map_err(one)?),
         None => Vec::new(),
@@ -82,11 +84,11 @@ impl Case {
     }
 }
 
-/// Runs all cases: what each act came to, or everything that is wrong with them.
-pub fn run_all(cases: &[Case], boards: &Boards) -> Result<Vec<Vec<Ran>>, Vec<String>> {
+/// Runs all cases on a node: what each act came to, or everything that is wrong with them.
+pub fn run_all(cases: &[Case], boards: &Boards, node: Node) -> Result<Vec<Vec<Ran>>, Vec<String>> {
     let (mut all, mut wrong) = (Vec::new(), Vec::new());
     for case in cases {
-        match run(case, boards) {
+        match run(case, boards, node) {
             Ok(ran) => all.push(ran),
             Err(lines) => wrong.extend(lines),
         }

@@ -1,13 +1,13 @@
-//! Runs a case on the proved code and holds what it says against what came of it.
+//! Runs a case on a node and holds what it says against what came of it.
 use super::file::{expanded, Act, Call, Case};
+use super::nodes::{Came, Node};
 use super::Boards;
-use crate::lent::members;
+use crate::lent::{members, Lent};
 use crate::whatif::bytes::hex;
 use crate::whatif::changes::changes;
 use crate::whatif::packet::Packet;
-use crate::whatif::things::{curve, curve_start, group, listed, number, value};
+use crate::whatif::things::{curve, curve_start, group, listed, value};
 use crate::whatif::{rule, Ended, Rule, Setting};
-use cruachvel::{Ran as FunctionRan, Refusal, VariableNumber, MOST_PACKET};
 
 /// What an act came to.
 #[derive(Debug)]
@@ -20,16 +20,20 @@ pub struct Ran {
 }
 
 /// Runs a case; else every line of it that is not so.
-pub fn run(case: &Case, boards: &Boards) -> Result<Vec<Ran>, Vec<String>> {
+pub fn run(case: &Case, boards: &Boards, node: Node) -> Result<Vec<Ran>, Vec<String>> {
     let place = |message: String| vec![format!("line {}: {}", case.line, message)];
     let mut setting = case.setting(boards).map_err(place)?;
     let (mut all, mut wrong) = (Vec::new(), Vec::new());
     for act in &case.acts {
-        let before = setting.clone();
-        setting.busy |= act.busy;
-        let ran = carry_out(act, &before, &mut setting);
-        wrong.extend(differences(act, &ran, &setting));
-        setting.busy = before.busy;
+        let mut before = setting.clone();
+        before.busy |= act.busy;
+        let came = node(&mut setting.lent, before.busy, &act.call);
+        let ran = Ran {
+            outcome: outcome_line(&came),
+            step: step(&act.call, &came, &before),
+            changes: changes(&before.lent, &setting.lent),
+        };
+        wrong.extend(differences(act, &ran, &setting.lent, node));
         all.push(ran);
     }
     if wrong.is_empty() {
@@ -39,53 +43,13 @@ pub fn run(case: &Case, boards: &Boards) -> Result<Vec<Ran>, Vec<String>> {
     }
 }
 
-fn carry_out(act: &Act, before: &Setting, setting: &mut Setting) -> Ran {
-    let mut step = None;
-    let outcome = match &act.call {
-        Call::Packet(request) => packet_line(setting, request, &mut step),
-        Call::Store(variable, bytes) => done_line(setting.lent.board_store(*variable, bytes)),
-        Call::Read {
-            signed,
-            variable,
-            bytes,
-        } => read_line(setting, *signed, *variable, bytes),
-        Call::Write {
-            signed,
-            variable,
-            number,
-            room,
-        } => write_line(setting, *signed, *variable, *number, *room),
-        Call::Result {
-            function,
-            due,
-            failed,
-            bytes,
-        } => {
-            let ran = match bytes.first() {
-                Some(error) if *failed => FunctionRan::Failed(*error),
-                _ => FunctionRan::Gave(bytes),
-            };
-            result_line(setting, *function, *due, ran)
+fn step(call: &Call, came: &Came, before: &Setting) -> Option<u8> {
+    match (call, came) {
+        (Call::Packet(request), Came::Ended(ended)) => {
+            step_of(&rule(ended, Packet(request), before))
         }
-    };
-    Ran {
-        outcome,
-        step,
-        changes: changes(&before.lent, &setting.lent),
+        _ => None,
     }
-}
-
-fn packet_line(setting: &mut Setting, request: &[u8], step: &mut Option<u8>) -> String {
-    let marked = setting.clone();
-    let ended = setting.packet(request);
-    *step = step_of(&rule(&ended, Packet(request), &marked));
-    ended_line(&ended)
-}
-
-fn result_line(setting: &Setting, function: usize, due: bool, ran: FunctionRan) -> String {
-    let mut reply = [0; MOST_PACKET];
-    let outcome = setting.lent.function_result(function, due, ran, &mut reply);
-    ended_line(&Ended::of(outcome))
 }
 
 fn step_of(rule: &Rule) -> Option<u8> {
@@ -96,61 +60,29 @@ fn step_of(rule: &Rule) -> Option<u8> {
     }
 }
 
-fn ended_line(ended: &Ended) -> String {
-    match ended {
-        Ended::Reply(reply) => format!("reply {}", hex(reply)),
-        Ended::Silence => "silence".to_string(),
-        Ended::Run {
+fn outcome_line(came: &Came) -> String {
+    match came {
+        Came::Ended(Ended::Reply(reply)) => format!("reply {}", hex(reply)),
+        Came::Ended(Ended::Silence) => "silence".to_string(),
+        Came::Ended(Ended::Run {
             function,
             input,
             due,
-        } => {
+        }) => {
             let due = if *due { "due" } else { "quiet" };
             format!("run {} {} {}", function, due, hex(input))
                 .trim()
                 .to_string()
         }
-        Ended::Refused(refusal) => refused_line(*refusal),
+        Came::Ended(Ended::Refused(refusal)) => format!("refused {}", refusal.number()),
+        Came::Done => "done".to_string(),
+        Came::Number(number) => format!("number {}", number),
+        Came::Bytes(bytes) => format!("bytes {}", hex(bytes)),
     }
 }
 
-fn refused_line(refusal: Refusal) -> String {
-    format!("refused {}", refusal.number())
-}
-
-fn done_line(done: Result<(), Refusal>) -> String {
-    done.map_or_else(refused_line, |()| "done".to_string())
-}
-
-fn read_line(setting: &Setting, signed: bool, variable: usize, bytes: &[u8]) -> String {
-    let (variables, variable) = (&setting.lent.variables, VariableNumber(variable));
-    let read = if signed {
-        cruachvel::read_signed(variables, variable, bytes).map(i128::from)
-    } else {
-        cruachvel::read_unsigned(variables, variable, bytes).map(i128::from)
-    };
-    read.map_or_else(refused_line, |number| format!("number {}", number))
-}
-
-fn write_line(
-    setting: &Setting,
-    signed: bool,
-    variable: usize,
-    number: i128,
-    room: usize,
-) -> String {
-    let (variables, variable) = (&setting.lent.variables, VariableNumber(variable));
-    let mut buffer = vec![0; room];
-    let written = if signed {
-        cruachvel::write_signed(variables, variable, number as i64, &mut buffer)
-    } else {
-        cruachvel::write_unsigned(variables, variable, number as u64, &mut buffer)
-    };
-    written.map_or_else(refused_line, |()| format!("bytes {}", hex(&buffer)))
-}
-
 // The lines of an act that are not so, with what is.
-fn differences(act: &Act, ran: &Ran, after: &Setting) -> Vec<String> {
+fn differences(act: &Act, ran: &Ran, after: &Lent, node: Node) -> Vec<String> {
     if act.expected.is_empty() {
         return vec![format!(
             "line {}: the call has no outcome; it ends in: {}",
@@ -162,7 +94,7 @@ fn differences(act: &Act, ran: &Ran, after: &Setting) -> Vec<String> {
         let so = if place == 0 {
             Some(ran.outcome.clone())
         } else {
-            state_line(said, ran, after)
+            state_line(said, ran, after, node)
         };
         match so {
             Some(so) if Ok(&so) == expanded(said).as_ref() => (),
@@ -177,8 +109,7 @@ fn differences(act: &Act, ran: &Ran, after: &Setting) -> Vec<String> {
 }
 
 // What a line about the state has to say.
-fn state_line(said: &str, ran: &Ran, after: &Setting) -> Option<String> {
-    let lent = &after.lent;
+fn state_line(said: &str, ran: &Ran, after: &Lent, node: Node) -> Option<String> {
     let words: Vec<&str> = said.split_whitespace().collect();
     let place = |word: usize| words.get(word)?.parse::<usize>().ok();
     let tail = match words[0] {
@@ -191,12 +122,12 @@ fn state_line(said: &str, ran: &Ran, after: &Setting) -> Option<String> {
         "unchanged" if ran.changes.is_empty() => return Some("unchanged".to_string()),
         "unchanged" => return Some(ran.changes.join("; ")),
         "group" => {
-            let found = group(lent, place(1)?);
+            let found = group(after, place(1)?);
             found.map_or("none".to_string(), |group| listed(members(group.set)))
         }
         "block" => return block_line(after, place(1)?, place(2)?),
         "variable" => hex(variable(after, place(1)?)?),
-        "reads" => number(lent, place(1)?, variable(after, place(1)?)?)?.to_string(),
+        "reads" => number(after, place(1)?, node)?.to_string(),
         _ => return None,
     };
     Some(
@@ -206,14 +137,31 @@ fn state_line(said: &str, ran: &Ran, after: &Setting) -> Option<String> {
     )
 }
 
-fn variable(setting: &Setting, number: usize) -> Option<&[u8]> {
-    setting.lent.variables.get(number)?;
-    Some(value(&setting.lent, number))
+fn variable(lent: &Lent, number: usize) -> Option<&[u8]> {
+    lent.variables.get(number)?;
+    Some(value(lent, number))
 }
 
-fn block_line(setting: &Setting, number: usize, block: usize) -> Option<String> {
-    let size = curve(&setting.lent, number)?.size;
-    let start = curve_start(&setting.lent, number).checked_add(block.checked_mul(size)?)?;
-    let bytes = setting.lent.blocks.get(start..start.checked_add(size)?)?;
+// The number that a variable's bytes mean to this node.
+fn number(lent: &Lent, number: usize, node: Node) -> Option<i128> {
+    let bytes = variable(lent, number)?;
+    let read = |signed| {
+        let call = Call::Read {
+            signed,
+            variable: number,
+            bytes: bytes.to_vec(),
+        };
+        match node(&mut lent.clone(), 0, &call) {
+            Came::Number(number) => Some(number),
+            _ => None,
+        }
+    };
+    read(true).or_else(|| read(false))
+}
+
+fn block_line(lent: &Lent, number: usize, block: usize) -> Option<String> {
+    let size = curve(lent, number)?.size;
+    let start = curve_start(lent, number).checked_add(block.checked_mul(size)?)?;
+    let bytes = lent.blocks.get(start..start.checked_add(size)?)?;
     Some(format!("block {} {} {}", number, block, hex(bytes)))
 }

@@ -1,8 +1,8 @@
 //! A call on both nodes, and how one is drawn.
-use super::second_side::Second;
 use crate::packets::{Draft, Drawer};
 use crate::random::Random;
 use crate::second;
+use crate::second_lent::SecondLent;
 use cruachvel::MOST_PACKET;
 
 /// One call, with the bytes that it is given and the length of the buffer that it may write.
@@ -45,7 +45,7 @@ pub enum Entry {
 }
 
 // Packets mostly, and of the rest what is fitting for the board more often than not.
-pub(super) fn draw(random: &mut Random, second: &Second) -> Call {
+pub(super) fn draw(random: &mut Random, second: &SecondLent) -> Call {
     let kind = random.below(32);
     match kind {
         0 => draw_noise(random, second),
@@ -63,7 +63,7 @@ fn reply_room(random: &mut Random) -> usize {
     MOST_PACKET
 }
 
-fn draw_packet(random: &mut Random, second: &Second) -> Call {
+fn draw_packet(random: &mut Random, second: &SecondLent) -> Call {
     let (lent, groups) = (&second.lent, &second.groups());
     let (given, draft) = Drawer {
         random,
@@ -81,7 +81,7 @@ fn draw_packet(random: &mut Random, second: &Second) -> Call {
     }
 }
 
-fn draw_noise(random: &mut Random, second: &Second) -> Call {
+fn draw_noise(random: &mut Random, second: &SecondLent) -> Call {
     let (lent, groups) = (&second.lent, &second.groups());
     let given = Drawer {
         random,
@@ -115,7 +115,7 @@ fn some_length(random: &mut Random, right: usize) -> usize {
     right
 }
 
-fn draw_result(random: &mut Random, second: &Second) -> Call {
+fn draw_result(random: &mut Random, second: &SecondLent) -> Call {
     let functions = &second.lent.functions;
     let function = some_number(random, functions.len() / 2);
     let output = functions
@@ -139,7 +139,7 @@ fn draw_result(random: &mut Random, second: &Second) -> Call {
     }
 }
 
-fn draw_store(random: &mut Random, second: &Second) -> Call {
+fn draw_store(random: &mut Random, second: &SecondLent) -> Call {
     let variables = &second.variables;
     let variable = some_number(random, variables.len());
     let size = variables.get(variable).map_or(0, |record| record.size);
@@ -151,7 +151,7 @@ fn draw_store(random: &mut Random, second: &Second) -> Call {
     }
 }
 
-fn draw_number(random: &mut Random, second: &Second) -> Call {
+fn draw_number(random: &mut Random, second: &SecondLent) -> Call {
     let variables = &second.variables;
     let variable = some_number(random, variables.len());
     let record = variables.get(variable).copied();

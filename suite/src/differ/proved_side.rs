@@ -1,10 +1,10 @@
 //! The proved node's side.
 use super::calls::{Call, Entry};
-use super::second_side::Second;
 use super::Ending;
 use crate::guard::{Edge, Guarded};
 use crate::lent::{Lent, MOST_LENT};
 use crate::second;
+use crate::second_lent::SecondLent;
 use cruachvel::{Address, FunctionNumber, Groups, Ran, Table, Variable, VariableNumber};
 
 pub(super) struct Records {
@@ -152,7 +152,7 @@ impl Proved {
     // Everything that a call leaves, beside how it ended.
     pub(super) fn differing(
         &self,
-        second: &Second,
+        second: &SecondLent,
         call: &Call,
         told: &Ending,
         ending: &Ending,

@@ -1,8 +1,11 @@
 //! A BSMP node: one packet and a board's state give one outcome and the next state.
 
 mod board;
+mod codes;
+mod message;
 mod node;
 mod numbers;
+mod reply;
 
 pub use board::{Address, Groups, Table, Variable};
 pub use node::{board_store, function_result, packet, Outcome, Ran};

@@ -3,7 +3,7 @@
 
 use super::board::{Layout, Variable};
 use super::board::{SIGNED_BIG, SIGNED_LITTLE, UNSIGNED_BIG, UNSIGNED_LITTLE};
-use super::node::{BOARD_UNUSABLE, DOES_NOT_FIT, NO_SUCH_VARIABLE, WRONG_BYTE_COUNT, WRONG_KIND};
+use super::codes::{BOARD_UNUSABLE, DOES_NOT_FIT, NO_SUCH_VARIABLE, WRONG_BYTE_COUNT, WRONG_KIND};
 
 #[derive(Clone, Copy)]
 enum Order {

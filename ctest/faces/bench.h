@@ -19,26 +19,26 @@ enum { UNTOUCHED = 0xAA };
 
 /* ---- Reporting ---- */
 
-static unsigned checks, failed;
+extern unsigned checks, failed;
 
-static bool passes(bool good)
+static inline bool passes(bool good)
 {
     checks++;
     if (!good) failed++;
     return good;
 }
 
-static void check(bool good, const char *name, const char *wrong)
+static inline void check(bool good, const char *name, const char *wrong)
 {
     if (!passes(good)) printf("FAILED: %s: %s\n", name, wrong);
 }
 
-static void check_number(const char *name, uint64_t said, uint64_t expected)
+static inline void check_number(const char *name, uint64_t said, uint64_t expected)
 {
     if (!passes(said == expected)) printf("FAILED: %s: %" PRIu64 " and not %" PRIu64 "\n", name, said, expected);
 }
 
-static void check_text(const char *name, int way, const char *said, const char *expected)
+static inline void check_text(const char *name, int way, const char *said, const char *expected)
 {
     if (passes(strcmp(said, expected) == 0)) return;
     printf("FAILED: %s (%s): %s and not %s\n", name, way == RAW ? "raw" : "inline", said, expected);
@@ -46,7 +46,7 @@ static void check_text(const char *name, int way, const char *said, const char *
 
 /* ---- Bytes and text ---- */
 
-static uint8_t *heap(size_t length)
+static inline uint8_t *heap(size_t length)
 {
     uint8_t *block = (uint8_t *)malloc(length);
     if (!block && length > 0) {
@@ -57,7 +57,7 @@ static uint8_t *heap(size_t length)
     return block;
 }
 
-static size_t bytes_of(const char *text, uint8_t *bytes)
+static inline size_t bytes_of(const char *text, uint8_t *bytes)
 {
     size_t length = 0;
     uint8_t sum = 0;
@@ -77,7 +77,7 @@ struct text {
 };
 
 /* The first 32 bytes, which is more than any expected text has. */
-static struct text text_of(const uint8_t *bytes, size_t length)
+static inline struct text text_of(const uint8_t *bytes, size_t length)
 {
     struct text text;
     if (length > 32) length = 32;
@@ -88,7 +88,7 @@ static struct text text_of(const uint8_t *bytes, size_t length)
 }
 
 /* The same text with its checksum worked out. */
-static struct text full_text(const char *given)
+static inline struct text full_text(const char *given)
 {
     struct text text;
     uint8_t bytes[32];
@@ -110,21 +110,21 @@ struct bench {
     size_t room;
 };
 
-static void set_values_length(struct bench *bench, size_t length)
+static inline void set_values_length(struct bench *bench, size_t length)
 {
     free(bench->state.values);
     bench->state.values = heap(length);
     bench->state.values_length = length;
 }
 
-static void set_blocks_length(struct bench *bench, size_t length)
+static inline void set_blocks_length(struct bench *bench, size_t length)
 {
     free(bench->state.blocks);
     bench->state.blocks = heap(length);
     bench->state.blocks_length = length;
 }
 
-static void set_room(struct bench *bench, size_t room)
+static inline void set_room(struct bench *bench, size_t room)
 {
     free(bench->reply);
     bench->reply = heap(room);
@@ -132,7 +132,7 @@ static void set_room(struct bench *bench, size_t room)
 }
 
 /* Board A, in tables that have place for wrong ones. */
-static void start(struct bench *bench)
+static inline void start(struct bench *bench)
 {
     memset(bench, 0, sizeof *bench);
     memcpy(bench->variables, board_a_variables, sizeof board_a_variables);
@@ -146,21 +146,21 @@ static void start(struct bench *bench)
     set_room(bench, BSMP_REPLY_ROOM);
 }
 
-static void end(struct bench *bench)
+static inline void end(struct bench *bench)
 {
     free(bench->state.values);
     free(bench->state.blocks);
     free(bench->reply);
 }
 
-static uint64_t mixed(uint64_t digest, const void *bytes, size_t length)
+static inline uint64_t mixed(uint64_t digest, const void *bytes, size_t length)
 {
     for (size_t i = 0; i < length; i++) digest = (digest ^ ((const uint8_t *)bytes)[i]) * UINT64_C(1099511628211);
     return digest;
 }
 
 /* Of the stores and the group table, so that "nothing changed" is one comparison. */
-static uint64_t digest(const struct bench *bench)
+static inline uint64_t digest(const struct bench *bench)
 {
     uint64_t digest = UINT64_C(14695981039346656037);
     digest = mixed(digest, bench->state.values, bench->state.values_length);
@@ -170,7 +170,7 @@ static uint64_t digest(const struct bench *bench)
 
 /* ---- Calls, by either way ---- */
 
-static struct bsmp_outcome packet_by(int way, struct bench *bench, const uint8_t *packet, size_t length)
+static inline struct bsmp_outcome packet_by(int way, struct bench *bench, const uint8_t *packet, size_t length)
 {
     const struct bsmp_board *board = &bench->board;
     struct bsmp_state *state = &bench->state;
@@ -189,7 +189,7 @@ struct result {
     const char *output;
 };
 
-static struct bsmp_outcome result_by(int way, struct bench *bench, const struct result *result)
+static inline struct bsmp_outcome result_by(int way, struct bench *bench, const struct result *result)
 {
     const struct bsmp_board *board = &bench->board;
     const struct bsmp_state *state = &bench->state;
@@ -206,7 +206,7 @@ static struct bsmp_outcome result_by(int way, struct bench *bench, const struct 
                                 output, length, bench->reply, bench->room);
 }
 
-static uint8_t store_by(int way, struct bench *bench, size_t variable, const uint8_t *bytes, size_t count)
+static inline uint8_t store_by(int way, struct bench *bench, size_t variable, const uint8_t *bytes, size_t count)
 {
     const struct bsmp_board *board = &bench->board;
     struct bsmp_state *state = &bench->state;
@@ -218,7 +218,7 @@ static uint8_t store_by(int way, struct bench *bench, size_t variable, const uin
 
 /* ---- What came of them: a reply's bytes, "silence", "run 0 with 07, due", "refused 5" ---- */
 
-static struct text said(const struct bench *bench, const struct bsmp_outcome *outcome, const uint8_t *packet)
+static inline struct text said(const struct bench *bench, const struct bsmp_outcome *outcome, const uint8_t *packet)
 {
     struct text text, input;
     switch (outcome->kind) {
@@ -234,7 +234,7 @@ static struct text said(const struct bench *bench, const struct bsmp_outcome *ou
 }
 
 /* The outcome is the expected one, what its kind has no use for is 0, and of the reply buffer only the reply was written. */
-static void check_outcome(const char *name, int way, const struct bench *bench, const struct bsmp_outcome *outcome,
+static inline void check_outcome(const char *name, int way, const struct bench *bench, const struct bsmp_outcome *outcome,
                           const uint8_t *packet, const char *expected)
 {
     bool reply = outcome->kind == BSMP_REPLY, run = outcome->kind == BSMP_RUN;
@@ -247,19 +247,19 @@ static void check_outcome(const char *name, int way, const struct bench *bench, 
     check(written <= (reply ? outcome->length : 0), name, "the reply buffer was written beyond the reply");
 }
 
-static void check_values(const char *name, int way, const struct bench *bench, const char *expected)
+static inline void check_values(const char *name, int way, const struct bench *bench, const char *expected)
 {
     struct text text = text_of(bench->state.values, bench->state.values_length);
     check_text(name, way, text.text, expected ? expected : "FF FF FF FD 5A 34 12");
 }
 
-static bool is_wire_error(const struct bench *bench, const struct bsmp_outcome *outcome)
+static inline bool is_wire_error(const struct bench *bench, const struct bsmp_outcome *outcome)
 {
     return outcome->kind == BSMP_REPLY && bench->reply[1] > BSMP_WIRE_OK;
 }
 
 /* Sends a packet; refusals, runs and wire errors must leave stores and group table as they were. */
-static void expect_packet(struct bench *bench, int way, const char *packet_text, const char *expected)
+static inline void expect_packet(struct bench *bench, int way, const char *packet_text, const char *expected)
 {
     uint8_t bytes[32];
     size_t length = bytes_of(packet_text, bytes);

@@ -1,0 +1,88 @@
+/* One line or more for every command and wire error that the settled examples leave out, busy marks, and the group table. */
+#include "subjects.h"
+
+struct line {
+    bool goes_on; /* from the line before, and not afresh */
+    const char *packet;
+    const char *outcome;
+    const char *values; /* after it; NULL if as on a fresh board */
+};
+
+static const struct line lines[] = {
+    {false, "FF 20 00 02 01 67 =", "silence", "FF FF FF FD 67 34 12"},
+    {true, "05 10 00 01 01 =", "00 11 00 01 67 =", "FF FF FF FD 67 34 12"},
+    {false, "05 30 00 02 00 01 =", "00 E0 00 00 =", NULL},
+    {true, "05 06 00 01 03 =", "00 07 00 02 00 01 =", NULL},
+    {true, "05 04 00 00 =", "00 05 00 04 03 01 82 02 =", NULL},
+    {true, "05 32 00 00 =", "00 E0 00 00 =", NULL},
+    {true, "05 12 00 01 03 =", "00 E3 00 00 =", NULL},
+    {false, "05 08 00 00 =", "00 09 00 05 01 00 04 00 02 =", NULL},
+    {false, "05 0C 00 00 =", "00 0D 00 01 12 =", NULL},
+    {false, "05 22 00 04 02 01 02 03 =", "00 E0 00 00 =", "FF FF FF FD 01 02 03"},
+    {false, "05 26 00 05 02 41 F0 0F FF =", "00 E0 00 00 =", "FF FF FF FD 50 04 12"},
+    {false, "05 26 00 05 02 59 F0 0F FF =", "00 E2 00 00 =", NULL},
+    {false, "05 28 00 03 01 03 77 =", "00 E3 00 00 =", NULL},
+    {false, "05 41 00 05 00 00 01 AB CD =", "00 E0 00 00 =", NULL},
+    {true, "05 40 00 03 00 00 01 =", "00 41 00 07 00 00 01 AB CD 00 00 =", NULL},
+    {false, "05 50 00 02 00 07 =", "run 0 with 07, due", NULL},
+    {false, "FF 50 00 02 00 07 =", "run 0 with 07", NULL},
+    {false, "F8 50 00 02 01 07 =", "silence", NULL},
+    {false, "05 30 00 01 00 =", "00 E0 00 00 =", NULL},
+    {true, "05 30 00 01 00 =", "00 E0 00 00 =", NULL},
+    {true, "05 30 00 01 00 =", "00 E0 00 00 =", NULL},
+    {true, "05 30 00 01 00 =", "00 E0 00 00 =", NULL},
+    {true, "05 30 00 01 00 =", "00 E0 00 00 =", NULL},
+    {true, "05 30 00 01 00 =", "00 E7 00 00 =", NULL},
+};
+
+static void try_lines(int way)
+{
+    struct bench bench;
+    start(&bench);
+    for (size_t i = 0; i < sizeof lines / sizeof lines[0]; i++) {
+        if (!lines[i].goes_on) {
+            end(&bench);
+            start(&bench);
+        }
+        expect_packet(&bench, way, lines[i].packet, lines[i].outcome);
+        check_values(lines[i].packet, way, &bench, lines[i].values);
+    }
+    end(&bench);
+}
+
+static void try_busy(int way)
+{
+    struct bench bench;
+    start(&bench);
+    bench.busy = UINT64_C(4);
+    expect_packet(&bench, way, "05 22 00 04 02 01 02 03 =", "00 E8 00 00 =");
+    check_values("22 on a busy member", way, &bench, NULL);
+    expect_packet(&bench, way, "05 10 00 01 02 =", "00 11 00 02 34 12 =");
+    bench.busy = ~UINT64_C(7);
+    expect_packet(&bench, way, "05 22 00 04 02 01 02 03 =", "00 E0 00 00 =");
+    end(&bench);
+}
+
+/* Of the group table, 30 writes one place and the count, 32 the count. */
+static void try_group_table(int way)
+{
+    struct bench bench;
+    start(&bench);
+    memset(bench.state.groups.sets, UNTOUCHED, sizeof bench.state.groups.sets);
+    struct bsmp_groups expected = bench.state.groups;
+    expect_packet(&bench, way, "05 30 00 02 00 02 =", "00 E0 00 00 =");
+    expected.count = 1;
+    expected.sets[0] = 5;
+    check(memcmp(&bench.state.groups, &expected, sizeof expected) == 0, "30", "the group table");
+    expect_packet(&bench, way, "05 32 00 00 =", "00 E0 00 00 =");
+    expected.count = 0;
+    check(memcmp(&bench.state.groups, &expected, sizeof expected) == 0, "32", "the group table");
+    end(&bench);
+}
+
+void try_commands(int way)
+{
+    try_lines(way);
+    try_busy(way);
+    try_group_table(way);
+}

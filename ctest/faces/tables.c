@@ -1,0 +1,132 @@
+/* Refusal 1: wrong tables. */
+#include "subjects.h"
+
+static void no_variables(struct bench *b) { b->board.variable_count = 0; set_values_length(b, 0); }
+static void type_2(struct bench *b) { b->variables[1].writable = 2; }
+static void size_0(struct bench *b) { b->variables[1].size = 0; set_values_length(b, 6); }
+static void size_128(struct bench *b) { b->variables[1].size = 128; set_values_length(b, 134); }
+static void kind_5(struct bench *b) { b->variables[1].kind = 5; }
+static void number_of_3(struct bench *b) { b->variables[2].size = 3; set_values_length(b, 8); }
+static void values_short(struct bench *b) { set_values_length(b, BOARD_A_VALUES - 1); }
+static void values_long(struct bench *b) { set_values_length(b, BOARD_A_VALUES + 1); }
+static void curve_type_2(struct bench *b) { b->curves[0].writable = 2; }
+static void block_size_0(struct bench *b) { b->curves[0].block_size = 0; set_blocks_length(b, 0); }
+static void block_size_4097(struct bench *b) { b->curves[0].block_size = 4097; set_blocks_length(b, 2 * 4097); }
+static void no_blocks(struct bench *b) { b->curves[0].blocks = 0; set_blocks_length(b, 0); }
+static void blocks_short(struct bench *b) { set_blocks_length(b, BOARD_A_BLOCKS - 1); }
+static void blocks_long(struct bench *b) { set_blocks_length(b, BOARD_A_BLOCKS + 1); }
+static void input_16(struct bench *b) { b->functions[0].input = 16; }
+static void output_16(struct bench *b) { b->functions[0].output = 16; }
+static void functions_17(struct bench *b) { b->board.function_count = 17; }
+static void groups_6(struct bench *b) { b->state.groups.count = 6; }
+static void group_empty(struct bench *b) { b->state.groups.count = 1; }
+static void group_undeclared(struct bench *b) { b->state.groups.count = 1; b->state.groups.sets[0] = 8; }
+
+static void curve_of_65537(struct bench *b)
+{
+    b->curves[0].block_size = 1;
+    b->curves[0].blocks = 65537;
+    set_blocks_length(b, 65537);
+}
+
+static void plain_variables(struct bench *b, size_t count, uint8_t size)
+{
+    for (size_t i = 0; i < count; i++) {
+        b->variables[i].size = size;
+        b->variables[i].kind = BSMP_PLAIN;
+    }
+    b->board.variable_count = count;
+    set_values_length(b, count * size);
+}
+
+static void variables_65(struct bench *b) { plain_variables(b, 65, 1); }
+static void variables_of_4128(struct bench *b) { plain_variables(b, 43, 96); }
+
+static void curves_9(struct bench *b)
+{
+    for (size_t i = 0; i < 9; i++) b->curves[i].block_size = b->curves[i].blocks = 1;
+    b->board.curve_count = 9;
+    set_blocks_length(b, 9);
+}
+
+static void curves_of_69632(struct bench *b)
+{
+    b->curves[0].block_size = 4096;
+    b->curves[0].blocks = 17;
+    set_blocks_length(b, 17 * 4096);
+}
+
+static const struct wrong {
+    const char *name;
+    bool of_variables; /* so that the readings see it */
+    void (*spoil)(struct bench *bench);
+} wrongs[] = {
+    {"no variables", true, no_variables},
+    {"65 variables", true, variables_65},
+    {"a variable of type 2", true, type_2},
+    {"a variable of no bytes", true, size_0},
+    {"a variable of 128 bytes", true, size_128},
+    {"a variable of kind 5", true, kind_5},
+    {"a number of 3 bytes", true, number_of_3},
+    {"variables of 4,128 bytes", true, variables_of_4128},
+    {"a store of values one byte short", false, values_short},
+    {"a store of values one byte long", false, values_long},
+    {"9 curves", false, curves_9},
+    {"a curve of type 2", false, curve_type_2},
+    {"a block size of 0", false, block_size_0},
+    {"a block size of 4,097", false, block_size_4097},
+    {"a curve of no blocks", false, no_blocks},
+    {"a curve of 65,537 blocks", false, curve_of_65537},
+    {"curves of 69,632 bytes", false, curves_of_69632},
+    {"a store of blocks one byte short", false, blocks_short},
+    {"a store of blocks one byte long", false, blocks_long},
+    {"17 functions", false, functions_17},
+    {"an input of 16 bytes", false, input_16},
+    {"an output of 16 bytes", false, output_16},
+    {"6 groups", false, groups_6},
+    {"an empty group", false, group_empty},
+    {"a group of an undeclared variable", false, group_undeclared},
+};
+
+static void try_wrong(int way, const struct wrong *wrong)
+{
+    static const uint8_t packet[] = {5, 0x20, 0, 2, 1, 0x66, 0x72}, bytes[4] = {0};
+    static const struct result result = {0, true, false, 0, "01 02"};
+    struct bench bench;
+    start(&bench);
+    wrong->spoil(&bench);
+    uint64_t before = digest(&bench);
+    struct bsmp_outcome outcome = packet_by(way, &bench, packet, sizeof packet);
+    check_outcome(wrong->name, way, &bench, &outcome, packet, "refused 1");
+    outcome = result_by(way, &bench, &result);
+    check_outcome(wrong->name, way, &bench, &outcome, packet, "refused 1");
+    check_number(wrong->name, store_by(way, &bench, 0, bytes, 4), BSMP_BOARD_UNUSABLE);
+    check(digest(&bench) == before, wrong->name, "a refusal changed something");
+    struct bsmp_signed_reading reading = bsmp_board_read_signed(&bench.board, 0, bytes, 4);
+    check_number(wrong->name, reading.refusal, wrong->of_variables ? BSMP_BOARD_UNUSABLE : 0);
+    end(&bench);
+}
+
+/* Only the library's own functions can be lent a record that is cut off. */
+static void try_cut_records(void)
+{
+    static const uint8_t packet[] = {5, 0, 0, 0, 0xFB};
+    static const size_t numbers[][2] = {{2, 2}, {4, 2}, {3, 1}, {3, 3}};
+    for (size_t i = 0; i < sizeof numbers / sizeof numbers[0]; i++) {
+        struct bench bench;
+        start(&bench);
+        struct bsmp_state *state = &bench.state;
+        struct bsmp_outcome outcome = bsmp_packet(
+            bench.variables, 3, &bench.curves[0].writable, numbers[i][0], &bench.functions[0].input, numbers[i][1],
+            &state->groups, 5, 0x81, 0, state->values, state->values_length, state->blocks, state->blocks_length, packet,
+            sizeof packet, bench.reply, bench.room);
+        check_outcome("a record cut off", RAW, &bench, &outcome, packet, "refused 1");
+        end(&bench);
+    }
+}
+
+void try_tables(int way)
+{
+    for (size_t i = 0; i < sizeof wrongs / sizeof wrongs[0]; i++) try_wrong(way, &wrongs[i]);
+    if (way == RAW) try_cut_records();
+}

@@ -1,0 +1,299 @@
+//! A message, carried out on a usable board: the commands, and the wire errors in their order.
+#![forbid(unsafe_code)]
+
+use super::board::{Board, Curve, Groups, MADE_MOST};
+use super::codes::*;
+use core::ops::Range;
+
+/// What a message without error asks to be sent or run.
+pub(super) enum Answer {
+    Done,
+    Version,
+    VariableList,
+    GroupList,
+    Group(u64),
+    CurveList,
+    FunctionList,
+    VariableValue(u64),
+    GroupValues(u64),
+    Block { front: [u8; 3], place: Range<usize> },
+    Run { function: usize, input: usize },
+}
+
+/// One variable or the members of one group, bit n for variable n.
+#[derive(Clone, Copy)]
+pub(super) struct Members {
+    pub(super) set: u64,
+    pub(super) writable: bool,
+}
+
+/// A usable board and its state.
+pub(super) struct Node<'a> {
+    pub(super) board: &'a Board<'a>,
+    pub(super) groups: &'a mut Groups,
+    pub(super) busy: u64,
+    pub(super) values: &'a mut [u8],
+    pub(super) blocks: &'a mut [u8],
+}
+
+impl Node<'_> {
+    /// Carries out a message: what is to be sent or run, or a wire error.
+    pub(super) fn carry_out(&mut self, message: &[u8]) -> Result<Answer, u8> {
+        let ([command, high, low], payload) = front(message, MALFORMED)?;
+        if usize::from(u16::from_be_bytes([high, low])) != payload.len() {
+            return Err(MALFORMED);
+        }
+        match command {
+            0x00 => bare(payload, Answer::Version),
+            0x02 => bare(payload, Answer::VariableList),
+            0x04 => bare(payload, Answer::GroupList),
+            0x06 => Ok(Answer::Group(self.group(one(payload)?)?.set)),
+            0x08 => bare(payload, Answer::CurveList),
+            0x0C => bare(payload, Answer::FunctionList),
+            0x10 => Ok(Answer::VariableValue(self.variable(one(payload)?)?.set)),
+            0x12 => Ok(Answer::GroupValues(self.group(one(payload)?)?.set)),
+            0x20 => self.write_variable(payload),
+            0x22 => self.write_group(payload),
+            0x24 => self.mask_variable(payload),
+            0x26 => self.mask_group(payload),
+            0x28 => self.write_and_read(payload),
+            0x30 => self.make_group(payload),
+            0x32 => self.remove_groups(payload),
+            0x40 => self.read_block(payload),
+            0x41 => self.write_block(payload),
+            0x50 => self.run(payload),
+            _ => Err(NOT_SUPPORTED),
+        }
+    }
+
+    fn write_variable(&mut self, payload: &[u8]) -> Result<Answer, u8> {
+        let ([variable], value) = front(payload, PAYLOAD_SIZE)?;
+        self.write(self.variable(variable)?, value)?;
+        Ok(Answer::Done)
+    }
+
+    fn write_group(&mut self, payload: &[u8]) -> Result<Answer, u8> {
+        let ([group], values) = front(payload, PAYLOAD_SIZE)?;
+        self.write(self.group(group)?, values)?;
+        Ok(Answer::Done)
+    }
+
+    fn mask_variable(&mut self, payload: &[u8]) -> Result<Answer, u8> {
+        let ([variable, operation], mask) = front(payload, PAYLOAD_SIZE)?;
+        self.mask(self.variable(variable)?, operation, mask)
+    }
+
+    fn mask_group(&mut self, payload: &[u8]) -> Result<Answer, u8> {
+        let ([group, operation], masks) = front(payload, PAYLOAD_SIZE)?;
+        self.mask(self.group(group)?, operation, masks)
+    }
+
+    fn write_and_read(&mut self, payload: &[u8]) -> Result<Answer, u8> {
+        let ([written, read], value) = front(payload, PAYLOAD_SIZE)?;
+        let written = self.variable(written)?;
+        let read = self.variable(read)?;
+        self.write(written, value)?;
+        Ok(Answer::VariableValue(read.set))
+    }
+
+    fn make_group(&mut self, ids: &[u8]) -> Result<Answer, u8> {
+        let declared = self.board.layout.variables.len();
+        if ids.is_empty() || ids.len() > declared {
+            return Err(PAYLOAD_SIZE);
+        }
+        let mut set = 0;
+        let mut ascending = true;
+        for &id in ids {
+            let member = self.variable(id)?.set;
+            // The one bit is above all bits before it.
+            ascending &= member > set;
+            set |= member;
+        }
+        if !ascending {
+            return Err(BAD_VALUE);
+        }
+        let made = self.groups.count as usize;
+        if made >= MADE_MOST {
+            return Err(GROUPS_FULL);
+        }
+        self.groups.sets[made] = set;
+        self.groups.count += 1;
+        Ok(Answer::Done)
+    }
+
+    fn remove_groups(&mut self, payload: &[u8]) -> Result<Answer, u8> {
+        let answer = bare(payload, Answer::Done)?;
+        self.groups.count = 0;
+        Ok(answer)
+    }
+
+    fn read_block(&self, payload: &[u8]) -> Result<Answer, u8> {
+        let (front, rest) = front(payload, PAYLOAD_SIZE)?;
+        if !rest.is_empty() {
+            return Err(PAYLOAD_SIZE);
+        }
+        let (_, place) = self.block(front)?;
+        Ok(Answer::Block { front, place })
+    }
+
+    fn write_block(&mut self, payload: &[u8]) -> Result<Answer, u8> {
+        let (front, data) = front(payload, PAYLOAD_SIZE)?;
+        let (curve, place) = self.block(front)?;
+        if data.is_empty() || data.len() > curve.block_size {
+            return Err(PAYLOAD_SIZE);
+        }
+        if !curve.writable {
+            return Err(READ_ONLY);
+        }
+        self.blocks[place][..data.len()].copy_from_slice(data);
+        Ok(Answer::Done)
+    }
+
+    fn run(&self, payload: &[u8]) -> Result<Answer, u8> {
+        let ([function], input) = front(payload, PAYLOAD_SIZE)?;
+        let function = usize::from(function);
+        let (declared, _) = self.board.functions().nth(function).ok_or(NO_SUCH_ID)?;
+        if input.len() != usize::from(declared) {
+            return Err(PAYLOAD_SIZE);
+        }
+        Ok(Answer::Run {
+            function,
+            input: input.len(),
+        })
+    }
+
+    fn variable(&self, id: u8) -> Result<Members, u8> {
+        if usize::from(id) >= self.board.layout.variables.len() {
+            return Err(NO_SUCH_ID);
+        }
+        let set = 1 << id;
+        let writable = self.board.layout.writable & set != 0;
+        Ok(Members { set, writable })
+    }
+
+    pub(super) fn group(&self, id: u8) -> Result<Members, u8> {
+        let all = self.board.layout.all;
+        let writable = self.board.layout.writable;
+        let set = match id {
+            0 => all,
+            1 => all & !writable,
+            2 => writable,
+            _ => self.made_group(usize::from(id - 3))?,
+        };
+        Ok(Members {
+            set,
+            writable: id != 1 && set & !writable == 0,
+        })
+    }
+
+    fn made_group(&self, place: usize) -> Result<u64, u8> {
+        let made = self.groups.made().unwrap_or(&[]);
+        made.get(place).copied().ok_or(NO_SUCH_ID)
+    }
+
+    /// The named curve and where the named block stands in the curves' store.
+    fn block(&self, front: [u8; 3]) -> Result<(Curve, Range<usize>), u8> {
+        let [id, high, low] = front;
+        let curve = self.board.curves().nth(usize::from(id)).ok_or(NO_SUCH_ID)?;
+        let block = usize::from(u16::from_be_bytes([high, low]));
+        if block >= curve.blocks {
+            return Err(BAD_VALUE);
+        }
+        let start = curve.start + block * curve.block_size;
+        Ok((curve, start..start + curve.block_size))
+    }
+
+    /// Whether these variables take so many bytes now.
+    fn allow(&self, members: Members, given: usize) -> Result<(), u8> {
+        if given != self.board.layout.length(members.set) {
+            return Err(PAYLOAD_SIZE);
+        }
+        if !members.writable {
+            return Err(READ_ONLY);
+        }
+        if self.busy & members.set != 0 {
+            return Err(BUSY);
+        }
+        Ok(())
+    }
+
+    fn write(&mut self, members: Members, values: &[u8]) -> Result<(), u8> {
+        self.allow(members, values.len())?;
+        let mut rest = values;
+        for piece in self.board.layout.pieces(members.set) {
+            let (new, after) = rest.split_at(piece.len());
+            self.values[piece].copy_from_slice(new);
+            rest = after;
+        }
+        Ok(())
+    }
+
+    fn mask(&mut self, members: Members, operation: u8, masks: &[u8]) -> Result<Answer, u8> {
+        let operate: fn(&mut [u8], &[u8]) = match operation {
+            0x53 | 0x4F => turn_on,
+            0x43 => turn_off,
+            0x54 | 0x58 => invert,
+            0x41 => keep,
+            _ => return Err(NOT_SUPPORTED),
+        };
+        self.allow(members, masks.len())?;
+        let mut rest = masks;
+        for piece in self.board.layout.pieces(members.set) {
+            let (mask, after) = rest.split_at(piece.len());
+            operate(&mut self.values[piece], mask);
+            rest = after;
+        }
+        Ok(Answer::Done)
+    }
+}
+
+/// The answer to a message that carries no payload.
+fn bare(payload: &[u8], answer: Answer) -> Result<Answer, u8> {
+    if payload.is_empty() {
+        Ok(answer)
+    } else {
+        Err(PAYLOAD_SIZE)
+    }
+}
+
+/// The payload's only byte.
+fn one(payload: &[u8]) -> Result<u8, u8> {
+    match payload {
+        [byte] => Ok(*byte),
+        _ => Err(PAYLOAD_SIZE),
+    }
+}
+
+/// The first N bytes and what follows them, or the error if there are fewer.
+fn front<const N: usize>(bytes: &[u8], error: u8) -> Result<([u8; N], &[u8]), u8> {
+    if bytes.len() < N {
+        return Err(error);
+    }
+    let (first, rest) = bytes.split_at(N);
+    let first = first.try_into().map_err(|_| error)?;
+    Ok((first, rest))
+}
+
+fn turn_on(value: &mut [u8], mask: &[u8]) {
+    for (byte, bits) in value.iter_mut().zip(mask) {
+        *byte |= bits;
+    }
+}
+
+fn turn_off(value: &mut [u8], mask: &[u8]) {
+    for (byte, bits) in value.iter_mut().zip(mask) {
+        *byte &= !bits;
+    }
+}
+
+fn invert(value: &mut [u8], mask: &[u8]) {
+    for (byte, bits) in value.iter_mut().zip(mask) {
+        *byte ^= bits;
+    }
+}
+
+fn keep(value: &mut [u8], mask: &[u8]) {
+    for (byte, bits) in value.iter_mut().zip(mask) {
+        *byte &= bits;
+    }
+}

@@ -1,0 +1,108 @@
+//! Board files, and what is said to those that can't be read.
+use crate::board_a_idle;
+use suite::whatif::board_file::parse;
+use suite::whatif::{table, Setting};
+
+// The first block of code in a page.
+fn sample(page: &str) -> &str {
+    page.split("```\n").nth(1).expect("a sample")
+}
+
+#[test]
+fn the_page_about_board_files_describes_board_a() {
+    let page = include_str!("../../../docs/BOARD-FILE.md");
+    assert_eq!(parse(sample(page)), Ok(board_a_idle()));
+}
+
+#[test]
+fn a_board_file_says_all_that_a_board_has() {
+    let text = "
+        address 9            # anywhere
+        busy 0 2
+        variable writable 2 signed little value -2
+        variable writable 3 plain
+        variable read-only 1 unsigned big bytes FE
+        curve read-only 2 3 bytes 01 02 03
+        curve writable 1 2 bytes 0A0B
+        function 15 0
+        function 0 3
+        group 0 1
+        group 2";
+    let Setting { lent, busy } = parse(text).expect("a board");
+    assert_eq!(busy, 0b101);
+    assert_eq!((lent.address.own, lent.address.multicast), (9, 1));
+    assert_eq!(lent.values, [0xFE, 0xFF, 0, 0, 0, 0xFE]);
+    assert_eq!(lent.curves, [0, 2, 3, 1, 1, 2]);
+    assert_eq!(lent.blocks, [1, 2, 3, 0, 0, 0, 0x0A, 0x0B]);
+    assert_eq!(lent.functions, [15, 0, 0, 3]);
+    assert_eq!(
+        (lent.groups.count, &lent.groups.sets[..2]),
+        (2, &[0b011, 0b100][..])
+    );
+    assert_eq!(table::broken(&lent), None);
+}
+
+#[test]
+fn a_board_file_may_describe_what_01_refuses() {
+    let wrong = [
+        (
+            "variable writable 128 plain",
+            "variable 0 has 128 bytes; 1 to 127 are allowed",
+        ),
+        (
+            "variable writable 3 signed big",
+            "variable 0 is a number of 3 bytes; a number has 1, 2, 4 or 8",
+        ),
+        (
+            "variable writable 1 plain\nvalues",
+            "the variables' store has 0 bytes; the records add up to 1",
+        ),
+        (
+            "variable writable 1 plain\ncurve writable 4096 17",
+            "the curves have 69,632 bytes; at most 65,536 are allowed",
+        ),
+        ("variable writable 1 plain\ngroup", "group 3 is empty"),
+        (
+            "variable writable 1 plain\ngroup 0 4",
+            "group 3 has variables that are not declared: 4",
+        ),
+        ("", "0 variables; 1 to 64 are allowed"),
+    ];
+    for (lines, reason) in wrong {
+        let setting = parse(&format!("address 5\n{}", lines)).expect(lines);
+        assert_eq!(table::broken(&setting.lent).as_deref(), Some(reason));
+    }
+}
+
+const MISTAKES: &[(&str, &str)] = &[
+        ("addres 5", "line 2: \"addres\" is none of address, multicast, variable, curve, function, group, busy, values and blocks"),
+        ("address", "line 2: the address is missing"),
+        ("address 256", "line 2: the address is a number from 0 to 255, and not \"256\""),
+        ("address 5\naddress 6", "line 3: a board has one address"),
+        ("address 5 6", "line 2: \"6\" is too much"),
+        ("multicast 8G", "line 2: \"8G\" is no bytes in hex"),
+        ("multicast 81 82", "line 2: the multicast byte is one byte in hex"),
+        ("variable written 1 plain", "line 2: \"written\" is neither read-only nor writable"),
+        ("variable writable 1 signed", "line 2: big or little is missing"),
+        ("variable writable 1 signed middle", "line 2: \"signed middle\" is none of plain, unsigned big, unsigned little, signed big and signed little"),
+        ("variable writable 1 signed big value -129", "line 2: -129 is refused with 12, doesn't fit"),
+        ("variable writable 1 plain value 1", "line 2: 1 is refused with 11, wrong kind"),
+        ("variable writable 1 unsigned big value x", "line 2: \"x\" is no number of 64 bits"),
+        ("variable writable 2 plain bytes 01", "line 2: the variable has 2 bytes, and 1 are given"),
+        ("variable writable 2 plain 01", "line 2: \"01\" is neither value nor bytes"),
+        ("address 5\ncurve writable 1 1 bytes 0102", "line 3: the curve has not so many bytes"),
+        ("curve writable 1 1 0102", "line 2: \"0102\" stands where bytes can stand"),
+        ("curve writable 1", "line 2: the number of blocks is missing"),
+        ("function 1", "line 2: the output is missing"),
+        ("busy 64", "line 2: a variable is a number from 0 to 63, and not 64"),
+        ("group 0\ngroup 0\ngroup 0\ngroup 0\ngroup 0\ngroup 0", "line 7: the group table has room for five made groups"),
+        ("busy 0", "the line with the address is missing"),
+    ];
+
+#[test]
+fn mistakes_in_a_board_file_are_told_with_their_line() {
+    for (lines, message) in MISTAKES {
+        let mistake = parse(&format!("# a board\n{}", lines)).expect_err(lines);
+        assert_eq!(mistake.to_string(), *message);
+    }
+}

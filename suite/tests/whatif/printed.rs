@@ -1,0 +1,93 @@
+//! What is printed of a packet.
+use crate::{board_a_idle, explained};
+
+#[test]
+fn a_write_to_a_read_only_variable_is_explained() {
+    let text = explained(&mut board_a_idle(), "05 20 00 05 00 00 00 00 00 D6");
+    let expected = "\
+packet    05 20 00 05 00 00 00 00 00 D6
+  destination   05              this board
+  command       20              write a variable
+  SIZE          00 05           5 bytes of payload
+  variable      00              variable 0: read-only, 4 bytes, signed big endian
+  value of 0    00 00 00 00     means 0
+  checksum      D6              the sum is 0
+outcome   reply E6, read-only
+rule      step 8 of the wire errors: \"E6: the thing to be written is read-only.\"
+          variable 0 is read-only
+reply     00 E6 00 00 1A
+  destination   00              the master
+  command       E6              read-only
+  SIZE          00 00           0 bytes of payload
+  checksum      1A              the sum is 0
+changed   nothing
+";
+    assert_eq!(text, expected);
+}
+
+#[test]
+fn packets_run_one_after_the_other_on_the_same_board() {
+    let mut setting = board_a_idle();
+    let made = explained(&mut setting, "05 30 00 02 00 02 C7");
+    assert!(made.ends_with("changed   group 3: none -> variables 0 2\n"));
+    let text = explained(&mut setting, "05 12 00 01 03 E5");
+    let expected = "\
+packet    05 12 00 01 03 E5
+  destination   05              this board
+  command       12              read a group
+  SIZE          00 01           1 byte of payload
+  group         03              group 3: read-only, variables 0 2
+  checksum      E5              the sum is 0
+outcome   reply 13, values of a group
+rule      no refusal and no wire error; the command's row: | 12 | group | 13: members' values, ascending |
+reply     00 13 00 06 FF FF FF FD 34 12 A7
+  destination   00              the master
+  command       13              values of a group
+  SIZE          00 06           6 bytes of payload
+  value of 0    FF FF FF FD     means -3
+  value of 2    34 12           means 4660
+  checksum      A7              the sum is 0
+changed   nothing
+";
+    assert_eq!(text, expected);
+}
+
+#[test]
+fn a_multicast_error_is_told_though_nothing_is_answered() {
+    let mut setting = board_a_idle();
+    setting.busy = 0b100;
+    let text = explained(&mut setting, "F8 22 00 04 02 01 02 03 DA");
+    let expected = "\
+outcome   silence
+rule      \"Packets to 248..255 are carried out if the multicast byte has that address, and never answered.\"
+          to the own address the outcome would be: reply E8, resource busy
+          step 9 of the wire errors: \"E8: a variable to be written is busy.\"
+          variable 2 is busy
+changed   nothing
+";
+    assert!(text.ends_with(expected), "{}", text);
+}
+
+#[test]
+fn changed_values_are_shown_as_numbers() {
+    let text = explained(&mut board_a_idle(), "05 20 00 03 02 FF FF D8");
+    let expected = "changed   variable 2: 34 12 (4660) -> FF FF (65535)\n";
+    assert!(text.ends_with(expected), "{}", text);
+    let text = explained(&mut board_a_idle(), "05 41 00 05 00 00 01 00 BB F9");
+    let expected = "changed   curve 0, block 1, from byte 1: 00 -> BB\n";
+    assert!(text.ends_with(expected), "{}", text);
+}
+
+#[test]
+fn a_checksum_that_was_left_out_is_pointed_out() {
+    let hint = |packet: &str| {
+        let text = explained(&mut board_a_idle(), packet);
+        let hint = text.lines().find(|line| line.starts_with("hint"));
+        hint.map(str::to_string)
+    };
+    let left_out = "hint      the checksum seems to be left out: with 72 added, as --sum does, the outcome would be: reply E0, OK";
+    assert_eq!(hint("05 20 00 02 01 66").as_deref(), Some(left_out));
+    let wrong = "hint      with 72 as its last byte the outcome would be: reply E0, OK";
+    assert_eq!(hint("05 20 00 02 01 66 70").as_deref(), Some(wrong));
+    assert_eq!(hint("05 20 00 02 01 66 72"), None);
+}
