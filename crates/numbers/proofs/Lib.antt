@@ -2,3 +2,4 @@ pub mod Order
 pub mod Little
 pub mod Sizes
 pub mod Signed
+pub mod Unique
