@@ -132,7 +132,7 @@ struct bsmp_function {
  * a member, and declared ones only. Of the places from count on, nothing counts. Making a group writes one place and the count,
  * removing them all the count only. */
 struct bsmp_groups {
-    size_t count;
+    uint64_t count;
     uint64_t sets[BSMP_MOST_MADE_GROUPS];
 };
 

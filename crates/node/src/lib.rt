@@ -226,7 +226,7 @@ fn lend(
 {
     let count = records.count;
     let sizes = records.sizes;
-    let made = groups.count;
+    let made = groups.count as usize;
     let sets = groups.sets;
     receive(
         &sizes[0..count],

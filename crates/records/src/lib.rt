@@ -28,7 +28,7 @@ pub struct Records {
 // The made groups as sets; of the places from `count` on, nothing counts.
 #[repr(C)]
 pub struct Groups {
-    pub count: usize,
+    pub count: u64,
     pub sets: [u64; 5],
 }
 
@@ -315,10 +315,10 @@ fn usable_group(set: u64, variables: usize) -> bool
 pub fn usable_groups(groups: Groups, variables: usize) -> bool
     ensures { λ r. ⌜ r ≡ usableGroups variables (groupsOf groups) ⌝ }
 {
-    let n = groups.count;
-    if 5 < n {
+    if 5 < groups.count {
         return false;
     }
+    let n = groups.count as usize;
     let mut i = 0;
     while i < n {
         if !usable_group(groups.sets[i], variables) {
@@ -337,7 +337,7 @@ impl Groups {
     {
         let n = self.count;
         let mut next = self;
-        next.sets[n] = members;
+        next.sets[n as usize] = members;
         next.count = n + 1;
         next
     }
