@@ -4,11 +4,12 @@
 #   x86_cc ARGS          the C compiler;   x86_run PROGRAM ARGS   runs what it made
 #   x86_cargo ARGS       cargo, offline, for x86-64; its programs run through x86_run
 # On x86-64 itself these are gcc, the program and cargo. Elsewhere they are Debian's cross compilers, and the toolchain's emulator and C library.
-x86_here=$(cd "$(dirname "${BASH_SOURCE[0]}")" && pwd)
+x86_here=$(cd "$(dirname "$(readlink -f "${BASH_SOURCE[0]}")")" && pwd)
 x86_top=$(cd "$x86_here/../.." && pwd)
 x86_made=$x86_top/suite/target/x86
 x86_kit=$(dirname "$(dirname "$(rt doc)")")/on/$(uname -m)/toolchain
 export RATTLE_LIB=${RATTLE_LIB:-$x86_top/target/staticlib}
+unset CARGO_TARGET_DIR CARGO_BUILD_TARGET_DIR # what is built is looked for in its own folder
 
 if [ "$(uname -m)" = x86_64 ]; then
     need_packages() { install_missing gcc g++ valgrind python3 && { command -v cargo >/dev/null || install_missing cargo rustc; }; }

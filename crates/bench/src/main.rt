@@ -69,13 +69,20 @@ fn one(
     }
 }
 
+// Lines to standard output. What can't be written is said on standard error, since a program here has no status of its own.
+fn put(lines: &[u8]) {
+    if !io::write_all(1, lines) {
+        io::write_all(2, b"bench: its output can't be written\n");
+    }
+}
+
 // Writes out[..o] where less than a line's room is left, and answers where the next line goes.
 fn room(out: &[u8], o: usize) -> usize
     requires { ⌜ (o ≤ length (now out)) × (9000 ≤ length (now out)) ⌝ }
     ensures { λ r. ⌜ (r + 9000 ≤ length (now (out .entry))) × (r + 9000 < 18446744073709551616) ⌝ }
 {
     if out.len() - o < 9000 {
-        io::write_all(1, &out[0..o]);
+        put(&out[0..o]);
         return 0;
     }
     o
@@ -170,7 +177,7 @@ fn drain(
         size = whole(buf, at, have);
     }
     let used = p.used;
-    io::write_all(1, &out[0..used]);
+    put(&out[0..used]);
     p
 }
 
@@ -190,6 +197,9 @@ fn fill(part: &mut [u8]) -> usize
     ensures { λ r. ⌜ r ≤ length (now (part .entry)) ⌝ }
 {
     let got = libc::read(0, part);
+    if got < 0 {
+        io::write_all(2, b"bench: its input can't be read\n");
+    }
     io::count(got, part)
 }
 
@@ -198,7 +208,7 @@ fn cut(number: u64, out: &mut [u8])
 {
     let a = text::put_number(out, 0, number);
     let b = text::put_text(out, a, b" cut\n");
-    io::write_all(1, &out[0..b]);
+    put(&out[0..b]);
 }
 
 struct Next {
