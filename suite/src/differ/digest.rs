@@ -56,6 +56,9 @@ impl Digest {
         self.bytes(&proved.values);
         self.bytes(&proved.blocks);
         self.number(proved.groups[0].count);
-        proved.groups[0].sets.iter().for_each(|set| self.number(*set));
+        proved.groups[0]
+            .sets
+            .iter()
+            .for_each(|set| self.number(*set));
     }
 }
