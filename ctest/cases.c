@@ -132,7 +132,8 @@ static struct came call(const struct whole_case *whole, const struct act *act)
                                       buffer, act->room));
     case RESULT:
         if (act->failed)
-            return of_outcome(bsmp_function_result(RECORDS, &groups, STORES, act->thing, act->due, true, act->given[0], NULL, 0, buffer, act->room));
+            return of_outcome(bsmp_function_result(RECORDS, &groups, STORES, act->thing, act->due, true, act->given[0], NULL, 0,
+                                                   buffer, act->room));
         return of_outcome(bsmp_function_result(RECORDS, &groups, STORES, act->thing, act->due, false, 0, act->given, act->given_length,
                                                buffer, act->room));
     case STORE: return of_refusal(bsmp_board_store(RECORDS, &groups, STORES, act->thing, act->given, act->given_length), 0);
@@ -157,7 +158,8 @@ static void try_act(const struct whole_case *whole, const struct act *act)
     check(came.ends == act->ends && came.refusal == act->refusal && came.number == act->number, act, "another outcome");
     if (act->ends == REPLY) check(outcome->length == act->length, act, "a reply of another length");
     if (act->ends == RUN) {
-        check(outcome->function == act->function && outcome->due == act->still_due && outcome->length == act->length, act, "another function to be run");
+        check(outcome->function == act->function && outcome->due == act->still_due, act, "another function to be run");
+        check(outcome->length == act->length, act, "an input of another length");
         check(act->length == 0 || memcmp(act->given + outcome->input, act->bytes, act->length) == 0, act, "another input");
     }
     if (written > 0) check(memcmp(buffer, act->bytes, written) == 0, act, "other bytes");
