@@ -19,10 +19,10 @@ impl Digest {
         let words = bytes.chunks_exact(8);
         let mut rest = [0; 8];
         rest[..words.remainder().len()].copy_from_slice(words.remainder());
-        words
-            .map(|word| word.try_into().unwrap_or(rest))
-            .chain([rest])
-            .for_each(|word| self.number(u64::from_le_bytes(word)));
+        for word in words {
+            self.number(u64::from_le_bytes(word.try_into().expect("eight bytes")));
+        }
+        self.number(u64::from_le_bytes(rest));
     }
 
     fn ending(&mut self, ending: &Ending) {
