@@ -2,17 +2,17 @@
  *
  * Each call runs on a stack of its own that was painted before; the deepest byte that lost its paint says how far the call went.
  * The same call is also made to a function that returns at once. What that takes is the caller's: the arguments that it pushes,
- * and the return address. (A packet's 18 arguments and the place for the outcome are 19 words; six go in registers, 13 are
- * pushed, which with the return address is 112 bytes.) The difference is what the library needs beyond that, with memcpy and
- * memset. */
-#define _GNU_SOURCE
+ * and the return address. (On x86-64 a packet's 18 arguments and the place for the outcome are 19 words; six go in registers, 13
+ * are pushed, which with the return address is 112 bytes.) The difference is what the library needs beyond that, with memcpy and
+ * memset. For x86-64, aarch64 and 32-bit ARM. */
 #include "bsmp.h"
 
 #include <stdio.h>
 #include <string.h>
-#include <ucontext.h>
 
-enum { MOST_STACK = 1024 };
+#ifndef MOST_STACK
+#define MOST_STACK 1024
+#endif
 
 /* ---- The board: 64 variables of 4,096 bytes, 8 curves of 65,536, 16 functions, five groups of all 64 ---- */
 
@@ -84,14 +84,22 @@ static unsigned refusal_ended(void)
     return refusal == BSMP_NOT_REFUSED ? DONE : REFUSED + (unsigned)refusal;
 }
 
-/* Where a call goes: to the library, or to `at_once`, which gives back the place for the outcome and does nothing else. */
-__asm__(".text\n"
-        ".globl at_once\n"
-        ".type at_once, @function\n"
-        "at_once:\n"
-        "    movq %rdi, %rax\n"
-        "    ret\n");
+/* `at_once` gives back the place for the outcome and does nothing else. `on_stack` runs a function on another stack, from its top down. */
+#define FUNCTION(name, ...) __asm__(".text\n.globl " #name "\n.type " #name ", %function\n" #name ":\n" __VA_ARGS__)
+#if defined(__x86_64__)
+FUNCTION(at_once, "movq %rdi, %rax\n ret\n");
+FUNCTION(on_stack, "pushq %rbp\n movq %rsp, %rbp\n movq %rdi, %rsp\n call *%rsi\n movq %rbp, %rsp\n popq %rbp\n ret\n");
+#elif defined(__aarch64__)
+FUNCTION(at_once, "ret\n");
+FUNCTION(on_stack, "stp x29, x30, [sp, -16]!\n mov x29, sp\n mov sp, x0\n blr x1\n mov sp, x29\n ldp x29, x30, [sp], 16\n ret\n");
+#elif defined(__thumb__)
+FUNCTION(at_once, "bx lr\n");
+FUNCTION(on_stack, "push {r4, lr}\n mov r4, sp\n mov sp, r0\n blx r1\n mov sp, r4\n pop {r4, pc}\n");
+#endif
 void at_once(void);
+void on_stack(uint8_t *top, void (*function)(void));
+
+/* Where a call goes: to the library, or to `at_once`. */
 static void (*entry)(void);
 static const struct call *current;
 
@@ -237,7 +245,6 @@ static const struct call unsigned_writings[] = {
 /* ---- Painting ---- */
 
 static uint8_t area[64 * 1024] __attribute__((aligned(64)));
-static ucontext_t back, there;
 
 static void prepare(const struct call *call)
 {
@@ -267,12 +274,7 @@ static size_t touched(void (*make)(void), uint8_t paint)
 {
     size_t untouched = 0;
     memset(area, paint, sizeof area);
-    getcontext(&there);
-    there.uc_stack.ss_sp = area;
-    there.uc_stack.ss_size = sizeof area;
-    there.uc_link = &back;
-    makecontext(&there, make, 0);
-    swapcontext(&back, &there);
+    on_stack(area + sizeof area, make);
     while (untouched < sizeof area && area[untouched] == paint) untouched++;
     return sizeof area - untouched;
 }
@@ -332,7 +334,7 @@ static size_t worst_of(const struct kind *kind)
     size_t worst = 0;
     for (size_t i = 0; i < kind->count; i++) {
         size_t bytes_needed = need(kind, &kind->calls[i]);
-        printf("%5zu  %s, %s\n", bytes_needed, kind->name, kind->calls[i].name);
+        printf("%5u  %s, %s\n", (unsigned)bytes_needed, kind->name, kind->calls[i].name);
         if (bytes_needed > worst) worst = bytes_needed;
     }
     return worst;
@@ -346,13 +348,13 @@ int main(void)
     for (size_t i = 0; i < sizeof kinds / sizeof kinds[0]; i++) worst[i] = worst_of(&kinds[i]);
     puts("Bytes of stack at most, beyond the arguments and the return address:");
     for (size_t i = 0; i < sizeof kinds / sizeof kinds[0]; i++) {
-        printf("%5zu  %s\n", worst[i], kinds[i].name);
+        printf("%5u  %s\n", (unsigned)worst[i], kinds[i].name);
         if (worst[i] > most) most = worst[i];
     }
     if (most > MOST_STACK) {
-        printf("FAILED: a call needs %zu bytes of stack; the limit is %d\n", most, MOST_STACK);
+        printf("FAILED: a call needs %u bytes of stack; the limit is %d\n", (unsigned)most, MOST_STACK);
         failures++;
     }
-    printf("%zu bytes of stack in the worst case, %d failed\n", most, failures);
+    printf("%u bytes of stack in the worst case, %d failed\n", (unsigned)most, failures);
     return failures != 0;
 }

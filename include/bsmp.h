@@ -4,8 +4,10 @@
  * The board keeps all memory and lends it to each call. The library allocates nothing and remembers nothing.
  * Line silence, baud rate and what a function does inside are the board's own affair.
  *
- * Link with libbsmp_c.a. It is x86-64 code with the System V calling convention, uses the SSE registers, and calls memcpy,
- * memmove and memset, which the C library or the firmware supplies. Lengths are size_t, which has 64 bits there.
+ * Link with libbsmp_c.a. It calls memcpy, memmove and memset, which the C library or the firmware supplies. There are two:
+ *   - The proved archive is x86-64 code with the System V calling convention, and uses the SSE registers.
+ *   - The portable edition is the proved source, compiled elsewhere and tested, for any target whose size_t has 32 or 64 bits;
+ *     docs/BOARDS.md says what one trusts besides the proofs.
  *
  * Duties of the caller. Nothing can check them, and a call that breaks one may do anything:
  *   - Every pointer is valid for its length, which counts elements, and is aligned as its type asks.
@@ -27,8 +29,8 @@
 #include <stddef.h>
 #include <stdint.h>
 
-#ifdef _WIN32
-#error "libbsmp_c.a has the System V calling convention"
+#if defined(_WIN32) && !defined(BSMP_PORTABLE)
+#error "the proved libbsmp_c.a has the System V calling convention; for the portable edition, define BSMP_PORTABLE"
 #endif
 
 #ifdef __cplusplus
@@ -159,7 +161,7 @@ struct bsmp_unsigned_reading {
     uint64_t number;
 };
 
-BSMP_ASSERT(sizeof(size_t) == 8);
+BSMP_ASSERT(sizeof(size_t) == 4 || sizeof(size_t) == 8);
 BSMP_ASSERT(sizeof(bool) == 1);
 BSMP_ASSERT(sizeof(struct bsmp_variable) == 3);
 BSMP_ASSERT(offsetof(struct bsmp_variable, size) == 1 && offsetof(struct bsmp_variable, kind) == 2);
@@ -167,10 +169,11 @@ BSMP_ASSERT(sizeof(struct bsmp_curve) == 3 * sizeof(uint32_t));
 BSMP_ASSERT(offsetof(struct bsmp_curve, block_size) == 4 && offsetof(struct bsmp_curve, blocks) == 8);
 BSMP_ASSERT(sizeof(struct bsmp_function) == 2 && offsetof(struct bsmp_function, output) == 1);
 BSMP_ASSERT(sizeof(struct bsmp_groups) == 48 && offsetof(struct bsmp_groups, sets) == 8);
-BSMP_ASSERT(sizeof(struct bsmp_outcome) == 32);
+BSMP_ASSERT(sizeof(struct bsmp_outcome) == 4 * sizeof(size_t));
 BSMP_ASSERT(offsetof(struct bsmp_outcome, refusal) == 1 && offsetof(struct bsmp_outcome, due) == 2);
-BSMP_ASSERT(offsetof(struct bsmp_outcome, function) == 8 && offsetof(struct bsmp_outcome, input) == 16);
-BSMP_ASSERT(offsetof(struct bsmp_outcome, length) == 24);
+BSMP_ASSERT(offsetof(struct bsmp_outcome, function) == sizeof(size_t));
+BSMP_ASSERT(offsetof(struct bsmp_outcome, input) == 2 * sizeof(size_t));
+BSMP_ASSERT(offsetof(struct bsmp_outcome, length) == 3 * sizeof(size_t));
 BSMP_ASSERT(sizeof(struct bsmp_signed_reading) == 16 && offsetof(struct bsmp_signed_reading, number) == 8);
 BSMP_ASSERT(sizeof(struct bsmp_unsigned_reading) == 16 && offsetof(struct bsmp_unsigned_reading, number) == 8);
 

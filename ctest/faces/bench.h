@@ -7,7 +7,6 @@
 
 #include "board_a.h"
 
-#include <inttypes.h>
 #include <stdio.h>
 #include <stdlib.h>
 
@@ -33,9 +32,10 @@ static inline void check(bool good, const char *name, const char *wrong)
     if (!passes(good)) printf("FAILED: %s: %s\n", name, wrong);
 }
 
-static inline void check_number(const char *name, uint64_t said, uint64_t expected)
+/* Formats are those that newlib has too, which has no %zu. */
+static inline void check_number(const char *name, unsigned long long said, unsigned long long expected)
 {
-    if (!passes(said == expected)) printf("FAILED: %s: %" PRIu64 " and not %" PRIu64 "\n", name, said, expected);
+    if (!passes(said == expected)) printf("FAILED: %s: %llu and not %llu\n", name, said, expected);
 }
 
 static inline void check_text(const char *name, int way, const char *said, const char *expected)
@@ -226,7 +226,8 @@ static inline struct text said(const struct bench *bench, const struct bsmp_outc
     case BSMP_SILENCE: return full_text("silence");
     case BSMP_RUN:
         input = text_of(packet + outcome->input, outcome->length);
-        snprintf(text.text, sizeof text.text, "run %zu with %.50s%s", outcome->function, input.text, outcome->due ? ", due" : "");
+        snprintf(text.text, sizeof text.text, "run %lu with %.50s%s", (unsigned long)outcome->function, input.text,
+                 outcome->due ? ", due" : "");
         return text;
     case BSMP_REFUSED: snprintf(text.text, sizeof text.text, "refused %u", outcome->refusal); return text;
     default: return full_text("an outcome of no known kind");

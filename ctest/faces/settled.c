@@ -64,7 +64,7 @@ static void say_value(struct example *example, size_t variable, const char *text
     memcpy(example->values + place_of(variable), bytes, size);
 }
 
-static void say_number(const struct example *example, size_t variable, long long number)
+static void say_number(const struct example *example, size_t variable, long number)
 {
     const struct bench *bench = &example->bench;
     const uint8_t *bytes = bench->state.values + place_of(variable);
@@ -88,15 +88,15 @@ static void say_group(struct example *example, size_t group, const char *members
 static bool take(struct example *example, const char *line)
 {
     char text[96];
-    size_t thing;
-    long long number;
+    unsigned long thing;
+    long number;
     if (sscanf(line, "packet %95[0-9A-F ]", text) == 1) start_packet(example, text);
     else if (!example->packet[0]) return false;
     else if (sscanf(line, "reply %95[0-9A-F ]", text) == 1) end_in(example, text);
     else if (strcmp(line, "silence") == 0) end_in(example, line);
-    else if (sscanf(line, "variable %zu %95[0-9A-F ]", &thing, text) == 2 && thing < 3) say_value(example, thing, text);
-    else if (sscanf(line, "reads %zu %lld", &thing, &number) == 2 && thing < 3) say_number(example, thing, number);
-    else if (sscanf(line, "group %zu %95[0-9 ]", &thing, text) == 2 && thing >= 3 && thing <= 7) say_group(example, thing, text);
+    else if (sscanf(line, "variable %lu %95[0-9A-F ]", &thing, text) == 2 && thing < 3) say_value(example, thing, text);
+    else if (sscanf(line, "reads %lu %ld", &thing, &number) == 2 && thing < 3) say_number(example, thing, number);
+    else if (sscanf(line, "group %lu %95[0-9 ]", &thing, text) == 2 && thing >= 3 && thing <= 7) say_group(example, thing, text);
     else return false;
     return true;
 }

@@ -18,7 +18,8 @@
 //! assert_eq!(values, [0x55]);
 //! ```
 //!
-//! Words and numbers are those of the project's document 01. The library is for x86-64.
+//! Words and numbers are those of the project's document 01. The proved library is for x86-64; over
+//! the portable edition (`docs/BOARDS.md`), whose archive RATTLE_LIB names then, this crate works elsewhere too.
 #![warn(missing_docs)]
 
 mod board;

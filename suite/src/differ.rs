@@ -1,5 +1,6 @@
 //! Both nodes on one board, call after call: everything that a call leaves is compared.
 mod calls;
+mod digest;
 mod proved_side;
 mod second_side;
 mod tally;
@@ -13,6 +14,7 @@ use crate::second;
 use crate::second_lent::SecondLent;
 use calls::{draw, Call};
 use cruachvel::{Outcome, Refusal};
+use digest::Digest;
 use proved_side::Proved;
 use std::fmt;
 pub use tally::Tally;
@@ -97,6 +99,7 @@ pub struct Differ {
     faults: Vec<Vec<Fault>>,
     proved: Proved,
     pub tally: Tally,
+    digest: Option<Digest>,
 }
 
 impl Differ {
@@ -107,7 +110,21 @@ impl Differ {
             faults: sorts_of_faults(),
             proved: Proved::new(),
             tally: Tally::new(),
+            digest: None,
         }
+    }
+
+    /// The same, with a number for all that the calls leave.
+    pub fn with_digest(seed: u64) -> Differ {
+        Differ {
+            digest: Some(Digest::new()),
+            ..Differ::new(seed)
+        }
+    }
+
+    /// Of the calls so far: how they ended, the buffers, stores and group tables that they left.
+    pub fn digest(&self) -> Option<u64> {
+        self.digest.as_ref().map(|digest| digest.0)
     }
 
     /// Goes on, board after board, until that many calls were made in all, or until the nodes disagree.
@@ -181,6 +198,9 @@ impl Differ {
             return Err(self.difference(second, &call, &told, &ending, what));
         }
         self.tally.note(&call, &ending, &second.buffer);
+        if let Some(digest) = &mut self.digest {
+            digest.note(&told, &self.proved);
+        }
         Ok(())
     }
 

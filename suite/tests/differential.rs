@@ -1,6 +1,7 @@
 //! The proved node and the second node agree on random boards and calls, in all that a call leaves, and nothing that 01 names is missing
 //! from those calls. SUITE_SEED sets the seed.
 use std::process::{Child, Stdio};
+use suite::differ::Differ;
 use suite::run::program;
 
 const CALLS_EACH: &str = "1000000";
@@ -31,4 +32,22 @@ fn both_nodes_agree() {
         let agreed = format!("{} calls agree", CALLS_EACH);
         assert!(text.lines().any(|line| line == agreed), "{}", text);
     }
+}
+
+fn digest(seed: u64, calls: u64) -> Option<u64> {
+    let mut differ = Differ::with_digest(seed);
+    if let Err(difference) = differ.run(calls) {
+        panic!("{}", difference);
+    }
+    differ.digest()
+}
+
+#[test]
+fn the_digest_tells_runs_apart() {
+    let one = digest(seed(), 1000);
+    assert!(one.is_some());
+    assert_eq!(one, digest(seed(), 1000));
+    assert_ne!(one, digest(seed(), 1001));
+    assert_ne!(one, digest(seed().wrapping_add(1), 1000));
+    assert_eq!(Differ::new(seed()).digest(), None);
 }

@@ -1,15 +1,17 @@
-//! differ [--seed N] [--calls N] [--all]: both nodes on random boards, call after call, until that many calls agreed or one didn't.
-//! With --all it also fails if some refusal, answer, wire error or pair of wire errors never came up.
+//! differ [--seed N] [--calls N] [--all] [--digest]: both nodes on random boards, call after call, until that many calls agreed or one didn't.
+//! With --all it also fails if some refusal, answer, wire error or pair of wire errors never came up. With --digest its last line is a number
+//! for all that the calls left: outcomes, replies, stores and group tables.
 use std::process::exit;
 use suite::differ::Differ;
 
-const USAGE: &str = "differ [--seed N] [--calls N] [--all]";
+const USAGE: &str = "differ [--seed N] [--calls N] [--all] [--digest]";
 const SHOWN_EVERY: u64 = 10_000_000;
 
 struct Wanted {
     seed: u64,
     calls: u64,
     all: bool,
+    digest: bool,
 }
 
 fn number(name: &str, text: Option<String>) -> Result<u64, String> {
@@ -23,12 +25,14 @@ fn wanted(mut arguments: impl Iterator<Item = String>) -> Result<Wanted, String>
         seed: 1,
         calls: 1_000_000,
         all: false,
+        digest: false,
     };
     while let Some(name) = arguments.next() {
         match name.as_str() {
             "--seed" => wanted.seed = number(&name, arguments.next())?,
             "--calls" => wanted.calls = number(&name, arguments.next())?,
             "--all" => wanted.all = true,
+            "--digest" => wanted.digest = true,
             _ => return Err(format!("{} is no option: {}", name, USAGE)),
         }
     }
@@ -41,7 +45,11 @@ fn main() {
         exit(2);
     });
     println!("seed {}", wanted.seed);
-    let mut differ = Differ::new(wanted.seed);
+    let mut differ = if wanted.digest {
+        Differ::with_digest(wanted.seed)
+    } else {
+        Differ::new(wanted.seed)
+    };
     while differ.tally.calls < wanted.calls {
         let next = wanted.calls.min(differ.tally.calls + SHOWN_EVERY);
         if let Err(difference) = differ.run(next) {
@@ -54,5 +62,8 @@ fn main() {
     if wanted.all && !not_met.is_empty() {
         println!("never came up: {}", not_met.join("; "));
         exit(1);
+    }
+    if let Some(digest) = differ.digest() {
+        println!("digest {:016X}", digest);
     }
 }

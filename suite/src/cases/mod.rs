@@ -4,11 +4,13 @@ mod file;
 mod nodes;
 mod page;
 mod run;
+mod table;
 
 pub use file::{examples, parse, Act, Call, Case};
 pub use nodes::{proved, second, Came, Node};
 pub use page::page;
 pub use run::{run, Ran};
+pub use table::table;
 
 use crate::whatif::{board_file, quotes, Setting};
 use std::collections::BTreeMap;
@@ -41,22 +43,37 @@ pub fn read(path: &Path) -> Result<String, String> {
 /// The page as the cases of a folder make it, and how many they are; else all that is wrong with them. The sentences of 01 are looked up
 /// in its text, if that is given.
 pub fn made(docs: &Path, document: Option<&Path>) -> Result<(String, usize), Vec<String>> {
-    let one = |message: String| vec![message];
-    let named = |message: String| format!("what-if.cases: {}", message);
-    let all = |lines: Vec<String>| lines.into_iter().map(named).collect::<Vec<String>>();
-    let text = read(&docs.join("what-if.cases")).map_err(one)?;
-    let cases = parse(&text).map_err(named).map_err(one)?;
-    let boards = boards(&docs.join("boards")).map_err(one)?;
-    let ran = run_all(&cases, &boards, proved).map_err(all)?;
+    let (cases, _, ran) = held(docs)?;
     let wrong = match document {
-        Some(path) => misquoted(&cases, &read(path).map_err(one)?),
+        Some(path) => misquoted(&cases, &read(path).map_err(|message| vec![message])?),
         None => Vec::new(),
     };
     if wrong.is_empty() {
         Ok((page(&cases, &ran), cases.len()))
     } else {
-        Err(all(wrong))
+        Err(wrong.into_iter().map(named).collect())
     }
+}
+
+/// The cases of a folder as a table in C, with what the proved node makes of them; else all that is wrong with them.
+pub fn made_table(docs: &Path) -> Result<String, Vec<String>> {
+    let (cases, boards, _) = held(docs)?;
+    table(&cases, &boards, proved).map_err(|message| vec![named(message)])
+}
+
+fn named(message: String) -> String {
+    format!("what-if.cases: {}", message)
+}
+
+// The cases of a folder with their boards and what each act came to, if all hold on the proved node.
+fn held(docs: &Path) -> Result<(Vec<Case>, Boards, Vec<Vec<Ran>>), Vec<String>> {
+    let one = |message: String| vec![message];
+    let text = read(&docs.join("what-if.cases")).map_err(one)?;
+    let cases = parse(&text).map_err(named).map_err(one)?;
+    let boards = boards(&docs.join("boards")).map_err(one)?;
+    let ran = run_all(&cases, &boards, proved)
+        .map_err(|lines| lines.into_iter().map(named).collect::<Vec<String>>())?;
+    Ok((cases, boards, ran))
 }
 
 /// Whether a page is what the cases make; else the first line that is not.
