@@ -80,6 +80,21 @@ fn the_program_ends_with_what_it_promises() {
 }
 
 #[test]
+fn a_mistake_in_a_board_file_is_told_with_file_and_line() {
+    let path = std::env::temp_dir().join(format!("whatif-{}.board", std::process::id()));
+    std::fs::write(&path, "address 5\nvariable writable 300 plain\n").expect("a file");
+    let name = path.display().to_string();
+    let output = whatif(&[&format!("--board={}", name), "05 FB"], "");
+    std::fs::remove_file(&path).expect("the file");
+    let message = format!(
+        "whatif: {}: line 2: the size can't be 300: what the node is lent has room for 0 to 255 there",
+        name
+    );
+    assert_eq!(said(&output), (Some(1), message));
+    assert!(output.stdout.is_empty());
+}
+
+#[test]
 fn the_program_explains_arguments_and_lines_alike() {
     let packets = ["05 30 00 01 01", "05300001 02"];
     let given = whatif(&["--sum", "--busy", "1,2", packets[0], packets[1]], "");
