@@ -8,6 +8,7 @@ mod json;
 mod printed;
 mod program;
 mod rules;
+mod tool;
 
 use suite::boards::board_a;
 use suite::whatif::{Session, Setting};
