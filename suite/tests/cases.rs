@@ -151,6 +151,22 @@ fn a_line_that_is_not_so_is_found() {
 }
 
 #[test]
+fn busy_marks_of_a_case_stand_in_place_of_the_board_s() {
+    let case = "\
+question Is it busy?
+answer At first.
+board a
+with busy 1
+packet 05 20 00 02 01 66 72
+reply 00 E8 00 00 18
+busy 2
+packet 05 20 00 02 01 66 72
+reply 00 E0 00 00 20
+says It.";
+    assert_eq!(wrong(case), [""; 0]);
+}
+
+#[test]
 fn a_case_that_says_too_little_is_found() {
     let lines = "question What?\nanswer So.\nboard a\npacket 05 FB\nsays It.";
     assert_eq!(

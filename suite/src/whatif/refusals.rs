@@ -68,58 +68,51 @@ fn not_for_this_board(request: Packet, setting: &Setting) -> Option<String> {
 /// The same for any call.
 pub fn call_reason(refusal: Refusal, call: &Call, setting: &Setting) -> Option<String> {
     let lent = &setting.lent;
-    match call {
-        Call::Packet(request) => reason(refusal, Packet(request), setting),
-        Call::Result {
-            function,
-            failed,
-            bytes,
-            ..
-        } => match refusal {
-            Refusal::BoardUnusable => table::broken(lent),
-            Refusal::NoSuchFunction => missing("function", *function, lent.functions.len() / 2),
-            Refusal::OutputLength if !failed => output_length(*function, bytes, setting),
-            _ => None,
-        },
-        Call::Store(variable, bytes) => match refusal {
-            Refusal::BoardUnusable => table::broken(lent),
-            Refusal::NoSuchVariable => missing("variable", *variable, lent.variables.len()),
-            Refusal::WrongByteCount => {
-                byte_count(*variable, bytes.len(), lent.variables.get(*variable)?)
-            }
-            _ => None,
-        },
-        Call::Read {
-            signed,
-            variable,
-            bytes,
-        } => reading(refusal, *signed, *variable, bytes.len(), setting),
-        Call::Write {
-            signed,
-            variable,
-            number,
-            room,
-        } => match refusal {
-            Refusal::DoesNotFit => does_not_fit(*variable, *number, lent.variables.get(*variable)?),
-            _ => reading(refusal, *signed, *variable, *room, setting),
-        },
+    match (refusal, call) {
+        (_, Call::Packet(request)) => reason(refusal, Packet(request), setting),
+        (Refusal::BoardUnusable, Call::Result { .. } | Call::Store(..)) => table::broken(lent),
+        (Refusal::BoardUnusable, _) => table::variables(&lent.variables),
+        (Refusal::NoSuchFunction, Call::Result { function, .. }) => {
+            missing("function", *function, lent.functions.len() / 2)
+        }
+        (
+            Refusal::OutputLength,
+            Call::Result {
+                function,
+                failed: false,
+                bytes,
+                ..
+            },
+        ) => output_length(*function, bytes, setting),
+        _ => variable_reason(refusal, call, setting),
     }
 }
 
-// What both readings are refused for, with so many bytes.
-fn reading(
-    refusal: Refusal,
-    signed: bool,
-    variable: usize,
-    bytes: usize,
-    setting: &Setting,
-) -> Option<String> {
+// What a call that names a variable is refused for.
+fn variable_reason(refusal: Refusal, call: &Call, setting: &Setting) -> Option<String> {
+    let (number, bytes, signed) = match call {
+        Call::Packet(_) | Call::Result { .. } => return None,
+        Call::Store(variable, bytes) => (*variable, bytes.len(), None),
+        Call::Read {
+            variable,
+            bytes,
+            signed,
+        } => (*variable, bytes.len(), Some(*signed)),
+        Call::Write {
+            variable,
+            room,
+            signed,
+            ..
+        } => (*variable, *room, Some(*signed)),
+    };
     let variables = &setting.lent.variables;
-    match refusal {
-        Refusal::BoardUnusable => table::variables(variables),
-        Refusal::NoSuchVariable => missing("variable", variable, variables.len()),
-        Refusal::WrongKind => wrong_kind(variable, signed, variables.get(variable)?),
-        Refusal::WrongByteCount => byte_count(variable, bytes, variables.get(variable)?),
+    match (refusal, call) {
+        (Refusal::NoSuchVariable, _) => missing("variable", number, variables.len()),
+        (Refusal::WrongKind, _) => wrong_kind(number, signed?, variables.get(number)?),
+        (Refusal::WrongByteCount, _) => byte_count(number, bytes, variables.get(number)?),
+        (Refusal::DoesNotFit, Call::Write { number: wanted, .. }) => {
+            does_not_fit(number, *wanted, variables.get(number)?)
+        }
         _ => None,
     }
 }
