@@ -194,6 +194,7 @@ fn a_checksum_that_is_there_twice_is_pointed_out() {
     let twice = "hint      the packet has its checksum already, and --sum added another: without --sum the outcome would be: reply E0, OK";
     assert_eq!(hint("05 20 00 02 01 66 72").as_deref(), Some(twice));
     assert_eq!(hint("05 20 00 02 01 66"), None);
-    // Its sum is 0 without a checksum.
+    // A wrong checksum is none; and a sum may be 0 without one.
+    assert_eq!(hint("05 20 00 02 01 66 70"), None);
     assert_eq!(hint("05 20 00 02 01 D8"), None);
 }
