@@ -60,7 +60,7 @@ reply 00 E0 00 00 20
 group 3 0 2
 group 4 none
 block 0 1 00 00 00 00
-says The way back";
+says The long road";
 
 fn wrong(text: &str) -> Vec<String> {
     let cases = parse(text).expect("a case that can be read");
@@ -151,6 +151,22 @@ fn a_line_that_is_not_so_is_found() {
 }
 
 #[test]
+fn busy_marks_of_a_case_stand_in_place_of_the_board_s() {
+    let case = "\
+question Is it busy?
+answer At first.
+board a
+with busy 1
+packet 05 20 00 02 01 66 72
+reply 00 E8 00 00 18
+busy 2
+packet 05 20 00 02 01 66 72
+reply 00 E0 00 00 20
+says It.";
+    assert_eq!(wrong(case), [""; 0]);
+}
+
+#[test]
 fn a_case_that_says_too_little_is_found() {
     let lines = "question What?\nanswer So.\nboard a\npacket 05 FB\nsays It.";
     assert_eq!(
@@ -204,7 +220,7 @@ const MISTAKES: &[(&str, &str)] = &[
     ),
     (
         "question What?\nread 0 FF",
-        "line 2: a read is not written so",
+        "line 2: a read is written so: read signed|unsigned VARIABLE BYTES",
     ),
     (
         "question What?\nwrite unsigned 0 -1 into 1",
@@ -214,7 +230,10 @@ const MISTAKES: &[(&str, &str)] = &[
         "question What?\nresult 0 due failed",
         "line 2: a function fails with one error byte",
     ),
-    ("question What?\nbusy 64", "line 2: \"64\" is no variable"),
+    (
+        "question What?\nbusy 64",
+        "line 2: a variable is a number from 0 to 63, and not \"64\"",
+    ),
     ("example", "line 1: \"example\" is no keyword"),
 ];
 
@@ -249,12 +268,12 @@ fn mistakes_in_a_file_of_cases_are_told_with_their_line() {
 fn a_sentence_that_01_does_not_have_is_found() {
     let cases = parse(CASE).expect("a case that can be read");
     let whatif = quotes().join("\n");
-    let document = format!("before. The\nway  back accepts\n{}", whatif);
+    let document = format!("before. The\nlong  road leads\n{}", whatif);
     assert_eq!(misquoted(&cases, &document), [""; 0]);
-    let document = document.replace("way  back", "way forth");
+    let document = document.replace("long  road", "short road");
     assert_eq!(
         misquoted(&cases, &document),
-        ["line 24: 01 doesn't say: The way back"]
+        ["line 24: 01 doesn't say: The long road"]
     );
     let step = "E2: command not above.";
     let document = whatif.replace(step, "");

@@ -1,5 +1,6 @@
 //! How a file of cases is read: questions or settled examples. Each line is a keyword and what belongs to it.
-use crate::whatif::bytes::bytes;
+use crate::whatif::bytes::repeated;
+use crate::whatif::call::{Call, Line};
 
 /// A question with all that answers it, or an example, which has calls on board A alone.
 #[derive(Clone, Debug, Default)]
@@ -22,35 +23,12 @@ pub struct Act {
     pub line: usize,
     /// The call as the file writes it.
     pub text: String,
-    pub busy: u64,
+    /// The variables that are busy, where a line before it says so.
+    pub busy: Option<u64>,
     pub call: Call,
     pub expected: Vec<(usize, String)>,
 }
 
-#[derive(Clone, Debug)]
-pub enum Call {
-    Packet(Vec<u8>),
-    Store(usize, Vec<u8>),
-    Read {
-        signed: bool,
-        variable: usize,
-        bytes: Vec<u8>,
-    },
-    Write {
-        signed: bool,
-        variable: usize,
-        number: i128,
-        room: usize,
-    },
-    Result {
-        function: usize,
-        due: bool,
-        failed: bool,
-        bytes: Vec<u8>,
-    },
-}
-
-const CALLS: [&str; 5] = ["packet", "store", "read", "write", "result"];
 const OUTCOMES: [&str; 7] = [
     "reply", "silence", "run", "refused", "done", "number", "bytes",
 ];
@@ -81,7 +59,7 @@ fn cases(text: &str, start: &'static str) -> Result<Vec<Case>, String> {
         start,
         line: 0,
         section: String::new(),
-        busy: 0,
+        busy: None,
         cases: Vec::new(),
     };
     for (place, line) in text.lines().enumerate() {
@@ -117,24 +95,34 @@ struct Reader {
     start: &'static str,
     line: usize,
     section: String,
-    busy: u64,
+    busy: Option<u64>,
     cases: Vec<Case>,
 }
 
 impl Reader {
     fn take(&mut self, keyword: &str, rest: &str) -> Result<(), String> {
+        match Line::of(keyword, rest)? {
+            Some(Line::Call(call)) => self.act(call, rest),
+            Some(Line::Busy(marks)) => {
+                self.busy = Some(marks);
+                Ok(())
+            }
+            None => self.told(keyword, rest),
+        }
+    }
+
+    // A line that carries nothing out.
+    fn told(&mut self, keyword: &str, rest: &str) -> Result<(), String> {
         match keyword {
             "section" => self.section = rest.to_string(),
             start if start == self.start => self.start(rest)?,
             "answer" => self.case()?.answer.push(rest.to_string()),
             "board" => self.case()?.board = rest.to_string(),
             "with" => self.case()?.with.push(rest.to_string()),
-            "busy" => self.busy = marks(rest)?,
             "says" => {
                 let line = self.line;
                 self.case()?.says.push((line, rest.to_string()));
             }
-            call if CALLS.contains(&call) => self.act(call, rest)?,
             expected if OUTCOMES.contains(&expected) || STATES.contains(&expected) => {
                 self.expect(expected, rest)?
             }
@@ -149,7 +137,7 @@ impl Reader {
             (_, "" | "P") => ("", "a"),
             _ => return Err(format!("an example is marked P or not, and not {:?}", rest)),
         };
-        self.busy = 0;
+        self.busy = None;
         self.cases.push(Case {
             line: self.line,
             section: self.section.clone(),
@@ -167,12 +155,12 @@ impl Reader {
             .ok_or_else(|| format!("no {} stands before this line", start))
     }
 
-    fn act(&mut self, keyword: &str, rest: &str) -> Result<(), String> {
+    fn act(&mut self, call: Call, rest: &str) -> Result<(), String> {
         let act = Act {
             line: self.line,
             text: rest.to_string(),
             busy: self.busy,
-            call: call(keyword, &rest.split_whitespace().collect::<Vec<&str>>())?,
+            call,
             expected: Vec::new(),
         };
         self.case()?.acts.push(act);
@@ -192,78 +180,11 @@ impl Reader {
     }
 }
 
-fn marks(numbers: &str) -> Result<u64, String> {
-    let mut marks = 0;
-    for number in numbers.split_whitespace() {
-        let mark = number
-            .parse()
-            .ok()
-            .and_then(|number| 1u64.checked_shl(number));
-        marks |= mark.ok_or_else(|| format!("{:?} is no variable", number))?;
-    }
-    Ok(marks)
-}
-
-fn call(keyword: &str, words: &[&str]) -> Result<Call, String> {
-    match (keyword, words) {
-        ("packet", words) => Ok(Call::Packet(repeated(words)?)),
-        ("store", [variable, words @ ..]) => Ok(Call::Store(number(variable)?, repeated(words)?)),
-        ("read", [kind @ ("signed" | "unsigned"), variable, words @ ..]) => Ok(Call::Read {
-            signed: *kind == "signed",
-            variable: number(variable)?,
-            bytes: repeated(words)?,
-        }),
-        ("write", [kind @ ("signed" | "unsigned"), variable, value, "into", room]) => {
-            Ok(Call::Write {
-                signed: *kind == "signed",
-                variable: number(variable)?,
-                number: whole_number(kind, value)?,
-                room: number(room)?,
-            })
-        }
-        ("result", [function, due @ ("due" | "quiet"), ran @ ("gave" | "failed"), words @ ..]) => {
-            result(function, *due == "due", *ran == "failed", repeated(words)?)
-        }
-        _ => Err(format!("a {} is not written so", keyword)),
-    }
-}
-
-fn result(function: &str, due: bool, failed: bool, bytes: Vec<u8>) -> Result<Call, String> {
-    if failed && bytes.len() != 1 {
-        return Err("a function fails with one error byte".to_string());
-    }
-    Ok(Call::Result {
-        function: number(function)?,
-        due,
-        failed,
-        bytes,
-    })
-}
-
-fn number<T: std::str::FromStr>(word: &str) -> Result<T, String> {
-    word.parse()
-        .map_err(|_| format!("{:?} is no number that can stand here", word))
-}
-
-// A number that the call can be handed.
-fn whole_number(kind: &str, word: &str) -> Result<i128, String> {
-    if kind == "signed" {
-        number::<i64>(word).map(i128::from)
-    } else {
-        number::<u64>(word).map(i128::from)
-    }
-}
-
-fn repeated(words: &[&str]) -> Result<Vec<u8>, String> {
-    bytes(&expanded(&words.join(" "))?)
-}
-
 /// A line with its repetitions written out: 00*3 stands for 00 00 00.
 pub fn expanded(line: &str) -> Result<String, String> {
     let mut words = Vec::new();
     for word in line.split_whitespace() {
-        let (piece, times) = word.split_once('*').unwrap_or((word, "1"));
-        let times: u16 = number(times)?;
+        let (piece, times) = repeated(word)?;
         words.extend((0..times).map(|_| piece));
     }
     Ok(words.join(" "))

@@ -6,8 +6,9 @@ mod page;
 mod run;
 mod table;
 
-pub use file::{examples, parse, Act, Call, Case};
-pub use nodes::{proved, second, Came, Node};
+pub use crate::whatif::ended::proved;
+pub use file::{examples, parse, Act, Case};
+pub use nodes::{second, Node};
 pub use page::page;
 pub use run::{run, Ran};
 pub use table::table;

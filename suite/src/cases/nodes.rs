@@ -1,105 +1,13 @@
-//! Carries out the calls of a case, by either node.
-use super::file::Call;
+//! Carries out the calls of a case by the second node.
 use crate::lent::Lent;
 use crate::second;
 use crate::second_lent::SecondLent;
-use crate::whatif::Ended;
-use cruachvel::{Ran, Refusal, VariableNumber, MOST_PACKET};
+use crate::whatif::call::Call;
+use crate::whatif::ended::{Came, Ended, FILLING};
+use cruachvel::{Refusal, MOST_PACKET};
 
 /// A node: it carries out a call on what a board lends, with these busy marks.
 pub type Node = fn(&mut Lent, u64, &Call) -> Came;
-
-/// What a call came to. Whatever was refused has ended so.
-#[derive(Clone, Debug)]
-pub enum Came {
-    Ended(Ended),
-    Done,
-    Number(i128),
-    Bytes(Vec<u8>),
-}
-
-impl Came {
-    fn of<T>(result: Result<T, Refusal>, came: impl Fn(T) -> Came) -> Came {
-        result.map_or_else(|refusal| Came::Ended(Ended::Refused(refusal)), came)
-    }
-
-    // With a reply buffer in which the reply alone may have been written.
-    fn sent(ended: Ended, buffer: &[u8]) -> Came {
-        let length = match &ended {
-            Ended::Reply(reply) => reply.len(),
-            _ => 0,
-        };
-        let kept = buffer[length..].iter().all(|byte| *byte == FILLING);
-        assert!(kept, "{:?} wrote more than its reply", ended);
-        Came::Ended(ended)
-    }
-}
-
-// What stands in a buffer until it is written.
-const FILLING: u8 = 0x5C;
-
-/// The proved node.
-pub fn proved(lent: &mut Lent, busy: u64, call: &Call) -> Came {
-    let mut reply = [FILLING; MOST_PACKET];
-    match call {
-        Call::Packet(request) => {
-            let ended = Ended::of(lent.packet(busy, request, &mut reply));
-            Came::sent(ended, &reply)
-        }
-        Call::Result {
-            function,
-            due,
-            failed,
-            bytes,
-        } => {
-            let ran = match bytes.first() {
-                Some(error) if *failed => Ran::Failed(*error),
-                _ => Ran::Gave(bytes),
-            };
-            let ended = Ended::of(lent.function_result(*function, *due, ran, &mut reply));
-            Came::sent(ended, &reply)
-        }
-        Call::Store(variable, bytes) => {
-            Came::of(lent.board_store(*variable, bytes), |()| Came::Done)
-        }
-        Call::Read {
-            signed,
-            variable,
-            bytes,
-        } => Came::of(
-            proved_read(lent, *signed, VariableNumber(*variable), bytes),
-            Came::Number,
-        ),
-        Call::Write {
-            signed,
-            variable,
-            number,
-            room,
-        } => {
-            let mut buffer = vec![FILLING; *room];
-            let variable = VariableNumber(*variable);
-            let written = if *signed {
-                cruachvel::write_signed(&lent.variables, variable, *number as i64, &mut buffer)
-            } else {
-                cruachvel::write_unsigned(&lent.variables, variable, *number as u64, &mut buffer)
-            };
-            Came::of(written, |()| Came::Bytes(buffer.clone()))
-        }
-    }
-}
-
-fn proved_read(
-    lent: &Lent,
-    signed: bool,
-    variable: VariableNumber,
-    bytes: &[u8],
-) -> Result<i128, Refusal> {
-    if signed {
-        cruachvel::read_signed(&lent.variables, variable, bytes).map(i128::from)
-    } else {
-        cruachvel::read_unsigned(&lent.variables, variable, bytes).map(i128::from)
-    }
-}
 
 /// The second node.
 pub fn second(lent: &mut Lent, busy: u64, call: &Call) -> Came {

@@ -1,11 +1,12 @@
 //! docs/WHAT-IF.md, made from the cases and from what they came to.
-use super::file::{Act, Call, Case};
+use super::file::{Act, Case};
 use super::run::Ran;
 use crate::lent::members;
 use crate::whatif::bytes::bytes;
+use crate::whatif::call::Call;
 use crate::whatif::commands::reply_name;
 use crate::whatif::packet::Packet;
-use crate::whatif::things::{listed, set_text};
+use crate::whatif::things::{busy_text, listed};
 use cruachvel::Refusal;
 
 const HEAD: &str = "# What does the node do if
@@ -93,21 +94,10 @@ fn board_line(case: &Case) -> String {
 }
 
 fn call_text(act: &Act) -> String {
-    let call = match &act.call {
-        Call::Packet(_) => format!("packet `{}`", act.text),
-        Call::Store(..) => format!("store `{}`", act.text),
-        Call::Read { .. } => format!("read `{}`", act.text),
-        Call::Write { .. } => format!("write `{}`", act.text),
-        Call::Result { .. } => format!("result `{}`", act.text),
-    };
-    let verb = if act.busy.count_ones() == 1 {
-        "is"
-    } else {
-        "are"
-    };
-    match act.busy {
+    let call = format!("{} `{}`", act.call.words().0, act.text);
+    match act.busy.unwrap_or(0) {
         0 => call,
-        busy => format!("{} while {} {} busy", call, set_text(busy), verb),
+        busy => format!("{} while {}", call, busy_text(busy)),
     }
 }
 
@@ -157,14 +147,14 @@ fn command(case: &Case) -> Option<String> {
     let simple = |act: &Act| {
         matches!(act.call, Call::Packet(_)) && act.busy == busy && !act.text.contains('*')
     };
-    if !case.with.is_empty() || !case.acts.iter().all(simple) {
+    if !case.with.is_empty() || busy == Some(0) || !case.acts.iter().all(simple) {
         return None;
     }
     let mut command = "tools/whatif".to_string();
     if case.board != "a" {
         command += &format!(" --board docs/boards/{}.board", case.board);
     }
-    if busy != 0 {
+    if let Some(busy) = busy {
         command += &format!(" --busy {}", listed(members(busy)).replace(' ', ","));
     }
     for act in &case.acts {

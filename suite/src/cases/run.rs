@@ -1,13 +1,14 @@
 //! Runs a case on a node and holds what it says against what came of it.
-use super::file::{expanded, Act, Call, Case};
-use super::nodes::{Came, Node};
+use super::file::{expanded, Act, Case};
+use super::nodes::Node;
 use super::Boards;
 use crate::lent::{members, Lent};
 use crate::whatif::bytes::hex;
+use crate::whatif::call::Call;
 use crate::whatif::changes::changes;
-use crate::whatif::packet::Packet;
+use crate::whatif::ended::Came;
+use crate::whatif::rule_of;
 use crate::whatif::things::{curve, curve_start, group, listed, value};
-use crate::whatif::{rule, Ended, Rule, Setting};
 
 /// What an act came to.
 #[derive(Debug)]
@@ -26,11 +27,11 @@ pub fn run(case: &Case, boards: &Boards, node: Node) -> Result<Vec<Ran>, Vec<Str
     let (mut all, mut wrong) = (Vec::new(), Vec::new());
     for act in &case.acts {
         let mut before = setting.clone();
-        before.busy |= act.busy;
+        before.busy = act.busy.unwrap_or(setting.busy);
         let came = node(&mut setting.lent, before.busy, &act.call);
         let ran = Ran {
-            outcome: outcome_line(&came),
-            step: step(&act.call, &came, &before),
+            outcome: came.line(),
+            step: rule_of(&act.call, &came, &before).step(),
             changes: changes(&before.lent, &setting.lent),
         };
         wrong.extend(differences(act, &ran, &setting.lent, node));
@@ -40,44 +41,6 @@ pub fn run(case: &Case, boards: &Boards, node: Node) -> Result<Vec<Ran>, Vec<Str
         Ok(all)
     } else {
         Err(wrong)
-    }
-}
-
-fn step(call: &Call, came: &Came, before: &Setting) -> Option<u8> {
-    match (call, came) {
-        (Call::Packet(request), Came::Ended(ended)) => {
-            step_of(&rule(ended, Packet(request), before))
-        }
-        _ => None,
-    }
-}
-
-fn step_of(rule: &Rule) -> Option<u8> {
-    match rule {
-        Rule::Step(step, _) => Some(step.number),
-        Rule::Multicast(_, rule) => step_of(rule),
-        _ => None,
-    }
-}
-
-fn outcome_line(came: &Came) -> String {
-    match came {
-        Came::Ended(Ended::Reply(reply)) => format!("reply {}", hex(reply)),
-        Came::Ended(Ended::Silence) => "silence".to_string(),
-        Came::Ended(Ended::Run {
-            function,
-            input,
-            due,
-        }) => {
-            let due = if *due { "due" } else { "quiet" };
-            format!("run {} {} {}", function, due, hex(input))
-                .trim()
-                .to_string()
-        }
-        Came::Ended(Ended::Refused(refusal)) => format!("refused {}", refusal.number()),
-        Came::Done => "done".to_string(),
-        Came::Number(number) => format!("number {}", number),
-        Came::Bytes(bytes) => format!("bytes {}", hex(bytes)),
     }
 }
 

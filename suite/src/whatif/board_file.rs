@@ -1,8 +1,9 @@
 //! A board described in a text file; docs/BOARD-FILE.md says how.
 use super::bytes::{bytes, counted};
-use super::things::{curve_start, Setting};
+use super::call::variables;
+use super::things::{curve_start, is_signed, Setting};
 use crate::lent::Lent;
-use cruachvel::{Address, Groups, Kind, Variable, VariableNumber};
+use cruachvel::{Address, Groups, Kind, Refusal, Variable, VariableNumber};
 use std::fmt;
 use std::path::Path;
 use std::str::FromStr;
@@ -62,10 +63,16 @@ impl<'a> Words<'a> {
             .ok_or_else(|| format!("{} is missing", what))
     }
 
-    fn number<T: FromStr>(&mut self, what: &str, range: &str) -> Result<T, String> {
+    // A number, as far as its place in the record can hold it; whether the node takes it is the node's to say.
+    fn number<T: FromStr>(&mut self, what: &str, most: u32) -> Result<T, String> {
         let word = self.next(what)?;
-        word.parse()
-            .map_err(|_| format!("{} is a number from {}, and not {:?}", what, range, word))
+        word.parse().map_err(|_| match word.parse::<i128>() {
+            Ok(number) => format!(
+                "{} can't be {}: what the node is lent has room for 0 to {} there",
+                what, number, most
+            ),
+            Err(_) => format!("{} is a number, and not {:?}", what, word),
+        })
     }
 
     // The bytes that all further words stand for.
@@ -79,14 +86,10 @@ impl<'a> Words<'a> {
 
     // The set of variables that all further words name.
     fn set(&mut self) -> Result<u64, String> {
-        let mut set = 0;
-        while !self.rest.is_empty() {
-            let number: u32 = self.number("a variable", "0 to 63")?;
-            set |= 1u64.checked_shl(number).ok_or_else(|| {
-                format!("a variable is a number from 0 to 63, and not {}", number)
-            })?;
-        }
-        Ok(set)
+        self.rest
+            .drain(..)
+            .rev()
+            .try_fold(0, |set, word| Ok(set | variables(word)?))
     }
 
     fn end(&self) -> Result<(), String> {
@@ -97,10 +100,13 @@ impl<'a> Words<'a> {
     }
 }
 
+const ONCE: [&str; 5] = ["address", "multicast", "busy", "values", "blocks"];
+
 // A board in the making.
 struct Draft {
     setting: Setting,
-    own: Option<u8>,
+    // The lines that may stand once, as far as they were met.
+    once: Vec<&'static str>,
     // Bytes for a curve's first blocks: the line, the curve and the bytes.
     curve_bytes: Vec<(usize, usize, Vec<u8>)>,
     whole_values: Option<Vec<u8>>,
@@ -123,7 +129,7 @@ impl Draft {
         };
         Draft {
             setting: Setting { lent, busy: 0 },
-            own: None,
+            once: Vec::new(),
             curve_bytes: Vec::new(),
             whole_values: None,
             whole_blocks: None,
@@ -135,14 +141,15 @@ impl Draft {
             Some(name) => name,
             None => return Ok(()),
         };
+        self.first(name)?;
         match name {
-            "address" => self.address(words)?,
+            "address" => self.setting.lent.address.own = words.number("the address", 255)?,
             "multicast" => self.multicast(words)?,
             "variable" => self.variable(words)?,
             "curve" => self.curve(words, line)?,
             "function" => self.function(words)?,
             "group" => self.group(words)?,
-            "busy" => self.setting.busy |= words.set()?,
+            "busy" => self.setting.busy = words.set()?,
             "values" => self.whole_values = Some(words.bytes()?),
             "blocks" => self.whole_blocks = Some(words.bytes()?),
             _ => return Err(format!("{:?} is none of address, multicast, variable, curve, function, group, busy, values and blocks", name)),
@@ -150,11 +157,11 @@ impl Draft {
         words.end()
     }
 
-    fn address(&mut self, words: &mut Words) -> Result<(), String> {
-        if self.own.is_some() {
-            return Err("a board has one address".to_string());
+    fn first(&mut self, name: &str) -> Result<(), String> {
+        if self.once.contains(&name) {
+            return Err(format!("a board has one line with {}", name));
         }
-        self.own = Some(words.number("the address", "0 to 255")?);
+        self.once.extend(ONCE.iter().filter(|once| **once == name));
         Ok(())
     }
 
@@ -169,7 +176,7 @@ impl Draft {
     fn variable(&mut self, words: &mut Words) -> Result<(), String> {
         let record = Variable {
             writable: writable(words)?.into(),
-            size: words.number("the size", "0 to 255")?,
+            size: words.number("the size", 255)?,
             kind: kind(words)?.number(),
         };
         let size = usize::from(record.size);
@@ -195,8 +202,8 @@ impl Draft {
         let curves = &mut self.setting.lent.curves;
         let record: [u32; 3] = [
             writable(words)?.into(),
-            words.number("the block size", "0 to 4294967295")?,
-            words.number("the number of blocks", "0 to 4294967295")?,
+            words.number("the block size", u32::MAX)?,
+            words.number("the number of blocks", u32::MAX)?,
         ];
         match words.rest.pop() {
             None => (),
@@ -210,38 +217,35 @@ impl Draft {
     }
 
     fn function(&mut self, words: &mut Words) -> Result<(), String> {
-        let input: u8 = words.number("the input", "0 to 255")?;
-        let output: u8 = words.number("the output", "0 to 255")?;
+        let input: u8 = words.number("the input", 255)?;
+        let output: u8 = words.number("the output", 255)?;
         self.setting.lent.functions.extend([input, output]);
         Ok(())
     }
 
     fn group(&mut self, words: &mut Words) -> Result<(), String> {
-        let groups = &mut self.setting.lent.groups;
-        let place = groups.sets.get_mut(groups.count as usize);
-        *place.ok_or("the group table has room for five made groups")? = words.set()?;
+        let (set, groups) = (words.set()?, &mut self.setting.lent.groups);
+        // Of more groups than the table has room for, the node sees that they are too many.
+        if let Some(place) = groups.sets.get_mut(groups.count as usize) {
+            *place = set;
+        }
         groups.count += 1;
         Ok(())
     }
 
     fn finish(self) -> Result<Setting, Mistake> {
+        if !self.once.contains(&"address") {
+            return Err(Mistake {
+                line: 0,
+                message: "the line with the address is missing".to_string(),
+            });
+        }
         let mut setting = self.setting;
         let lent = &mut setting.lent;
-        lent.address.own = self.own.ok_or_else(|| Mistake {
-            line: 0,
-            message: "the line with the address is missing".to_string(),
-        })?;
         lent.refit();
         for (line, number, bytes) in self.curve_bytes {
-            let (start, end) = (curve_start(lent, number), curve_start(lent, number + 1));
-            let place = lent
-                .blocks
-                .get_mut(start..end)
-                .and_then(|curve| curve.get_mut(..bytes.len()));
-            let message = "the curve has not so many bytes".to_string();
-            place
-                .ok_or(Mistake { line, message })?
-                .copy_from_slice(&bytes);
+            let told = put_curve(lent, number, &bytes);
+            told.map_err(|message| Mistake { line, message })?;
         }
         if let Some(values) = self.whole_values {
             lent.values = values;
@@ -251,6 +255,22 @@ impl Draft {
         }
         Ok(setting)
     }
+}
+
+// The first bytes of a curve, as far as the store has it: where the curves are too long for the node, it is shorter.
+fn put_curve(lent: &mut Lent, number: usize, bytes: &[u8]) -> Result<(), String> {
+    let (start, end) = (curve_start(lent, number), curve_start(lent, number + 1));
+    if bytes.len() > end - start {
+        let has = counted(end - start, "byte");
+        return Err(format!(
+            "the curve has {}, and {} are given",
+            has,
+            bytes.len()
+        ));
+    }
+    let places = lent.blocks.iter_mut().skip(start);
+    places.zip(bytes).for_each(|(place, byte)| *place = *byte);
+    Ok(())
 }
 
 fn writable(words: &mut Words) -> Result<bool, String> {
@@ -281,10 +301,7 @@ pub fn number_bytes(record: Variable, number: &str) -> Result<Vec<u8>, String> {
     let (variable, long) = (VariableNumber(0), || {
         format!("{:?} is no number of 64 bits", number)
     });
-    let signed = [Kind::SignedBig, Kind::SignedLittle]
-        .map(Kind::number)
-        .contains(&record.kind);
-    let written = if signed {
+    let written = if is_signed(&record) {
         let number = number.parse().map_err(|_| long())?;
         cruachvel::write_signed(&[record], variable, number, &mut bytes)
     } else {
@@ -292,7 +309,8 @@ pub fn number_bytes(record: Variable, number: &str) -> Result<Vec<u8>, String> {
         cruachvel::write_unsigned(&[record], variable, number, &mut bytes)
     };
     match written {
-        Ok(()) => Ok(bytes),
+        // The node refuses a record that breaks the table, whatever the variable holds.
+        Ok(()) | Err(Refusal::BoardUnusable) => Ok(bytes),
         Err(refusal) => Err(format!(
             "{} is refused with {}, {}",
             number,

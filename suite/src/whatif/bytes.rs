@@ -3,37 +3,51 @@
 // More bytes than this are not shown one by one.
 const SHOWN: usize = 24;
 
-/// The bytes of a text in hex, with or without spaces; else what is wrong with it, and at which place, from 1.
+/// The bytes of a text in hex; else what is wrong with it, and at which place, from 1. Spaces, commas, colons and dashes may stand between
+/// bytes, 0x before them; 00*3 stands for 00 00 00.
 pub fn bytes(text: &str) -> Result<Vec<u8>, String> {
-    let mut bytes = Vec::new();
-    let mut high = None;
-    for (place, letter) in text.chars().enumerate() {
-        let digit = match letter.to_digit(16) {
-            Some(digit) => digit as u8,
-            None if letter.is_whitespace() && high.is_none() => continue,
-            None if letter.is_whitespace() => break,
-            None => {
-                return Err(format!(
-                    "{:?} at place {} is no hex digit",
-                    letter,
-                    place + 1
-                ))
-            }
-        };
-        high = match high {
-            None => Some((place, digit)),
-            Some((_, first)) => {
-                bytes.push(first << 4 | digit);
-                None
-            }
-        };
+    let separates = |letter: char| letter.is_whitespace() || matches!(letter, ',' | ':' | '-');
+    let (mut all, mut place) = (Vec::new(), 1);
+    for word in text.split(separates) {
+        let (piece, times) = repeated(word)?;
+        all.extend(word_bytes(piece, place)?.repeat(times));
+        place += word.chars().count() + 1;
     }
-    match high {
-        None => Ok(bytes),
-        Some((place, _)) => Err(format!(
+    Ok(all)
+}
+
+/// A word without its repetition, and how many times it is meant: 00*3 is 00 three times.
+pub fn repeated(word: &str) -> Result<(&str, usize), String> {
+    match word.split_once('*') {
+        None => Ok((word, 1)),
+        Some((piece, times)) => match times.parse::<u16>() {
+            Ok(times) => Ok((piece, times.into())),
+            Err(_) => Err(format!("{:?} is no number that can stand here", times)),
+        },
+    }
+}
+
+// The bytes of a word that starts at a place. After 0x, one digit is a byte too.
+fn word_bytes(word: &str, place: usize) -> Result<Vec<u8>, String> {
+    let prefixed = word.strip_prefix("0x").or_else(|| word.strip_prefix("0X"));
+    let start = place + prefixed.map_or(0, |_| 2);
+    let digit = |(at, letter): (usize, char)| {
+        let digit = letter.to_digit(16).map(|digit| digit as u8);
+        digit.ok_or_else(|| format!("{:?} at place {} is no hex digit", letter, start + at))
+    };
+    let letters = prefixed.unwrap_or(word).chars();
+    let digits: Vec<u8> = letters.enumerate().map(digit).collect::<Result<_, _>>()?;
+    match (prefixed, digits.len()) {
+        (Some(_), 0) => Err(format!("no digit follows the 0x at place {}", place)),
+        (Some(_), 1) => Ok(digits),
+        (_, count) if count % 2 == 1 => Err(format!(
             "a byte has two digits, and at place {} stands one",
-            place + 1
+            start + count - 1
         )),
+        _ => {
+            let pairs = digits.chunks_exact(2);
+            Ok(pairs.map(|pair| pair[0] << 4 | pair[1]).collect())
+        }
     }
 }
 

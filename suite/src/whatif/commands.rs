@@ -105,7 +105,12 @@ pub const COMMANDS: [Command; 18] = [
 
 /// What a reply's code is called.
 pub fn reply_name(code: u8) -> &'static str {
-    match code {
+    known_reply(code).unwrap_or("a code that 01 doesn't have")
+}
+
+/// The same, for those that 01 has.
+pub fn known_reply(code: u8) -> Option<&'static str> {
+    let name = match code {
         0x01 => "protocol version",
         0x03 => "list of variables",
         0x05 => "list of groups",
@@ -126,8 +131,9 @@ pub fn reply_name(code: u8) -> &'static str {
         0xE6 => "read-only",
         0xE7 => "insufficient memory",
         0xE8 => "resource busy",
-        _ => "a code that 01 doesn't have",
-    }
+        _ => return None,
+    };
+    Some(name)
 }
 
 /// What an operation of 24 and 26 is called, if it is one.

@@ -1,4 +1,5 @@
 //! A packet taken apart, as far as its bytes go.
+use super::bytes::checksum;
 use super::commands::{Command, Field, Rest};
 
 /// A request or a reply: destination, message, checksum.
@@ -12,6 +13,11 @@ impl<'a> Packet<'a> {
 
     pub fn checksum(self) -> Option<u8> {
         self.0.get(1..)?.last().copied()
+    }
+
+    /// The sum of all bytes, which is 0 where the checksum is right.
+    pub fn sum(self) -> u8 {
+        checksum(self.0).wrapping_neg()
     }
 
     pub fn message(self) -> &'a [u8] {
@@ -38,6 +44,11 @@ impl<'a> Packet<'a> {
 
     pub fn payload(self) -> &'a [u8] {
         self.message().get(3..).unwrap_or(&[])
+    }
+
+    /// Whether SIZE is the number of bytes that follow.
+    pub fn is_whole(self) -> bool {
+        self.size() == Some(self.payload().len())
     }
 
     /// The payload's front field by field, as far as it goes, and what follows it.

@@ -1,10 +1,11 @@
-//! 01's local refusals: their conditions, and why a packet meets one.
-use super::bytes::{checksum, counted};
+//! 01's local refusals: their conditions, and why a call meets one.
+use super::bytes::counted;
+use super::call::{sign_name, Call};
 use super::packet::Packet;
 use super::table;
-use super::things::Setting;
+use super::things::{function, is_signed, kind_name, missing, Setting};
 use crate::lent::members;
-use cruachvel::Refusal;
+use cruachvel::{Kind, Refusal, Variable};
 
 /// The condition of a refusal in 01's words.
 pub fn condition(refusal: Refusal) -> &'static str {
@@ -41,7 +42,7 @@ pub fn reason(refusal: Refusal, request: Packet, setting: &Setting) -> Option<St
             "the packet has {}",
             counted(request.0.len(), "byte")
         )),
-        Refusal::Checksum => match checksum(request.0).wrapping_neg() {
+        Refusal::Checksum => match request.sum() {
             0 => None,
             sum => Some(format!("the sum is {:02X}", sum)),
         },
@@ -60,6 +61,95 @@ fn not_for_this_board(request: Packet, setting: &Setting) -> Option<String> {
         format!(
             "the destination is {}; the board is {} and has joined {}",
             destination, address.own, joined
+        )
+    })
+}
+
+/// The same for any call.
+pub fn call_reason(refusal: Refusal, call: &Call, setting: &Setting) -> Option<String> {
+    let lent = &setting.lent;
+    match (refusal, call) {
+        (_, Call::Packet(request)) => reason(refusal, Packet(request), setting),
+        (Refusal::BoardUnusable, Call::Result { .. } | Call::Store(..)) => table::broken(lent),
+        (Refusal::BoardUnusable, _) => table::variables(&lent.variables),
+        (Refusal::NoSuchFunction, Call::Result { function, .. }) => {
+            missing("function", *function, lent.functions.len() / 2)
+        }
+        (
+            Refusal::OutputLength,
+            Call::Result {
+                function,
+                failed: false,
+                bytes,
+                ..
+            },
+        ) => output_length(*function, bytes, setting),
+        _ => variable_reason(refusal, call, setting),
+    }
+}
+
+// What a call that names a variable is refused for.
+fn variable_reason(refusal: Refusal, call: &Call, setting: &Setting) -> Option<String> {
+    let (number, bytes, signed) = match call {
+        Call::Packet(_) | Call::Result { .. } => return None,
+        Call::Store(variable, bytes) => (*variable, bytes.len(), None),
+        Call::Read {
+            variable,
+            bytes,
+            signed,
+        } => (*variable, bytes.len(), Some(*signed)),
+        Call::Write {
+            variable,
+            room,
+            signed,
+            ..
+        } => (*variable, *room, Some(*signed)),
+    };
+    let variables = &setting.lent.variables;
+    match (refusal, call) {
+        (Refusal::NoSuchVariable, _) => missing("variable", number, variables.len()),
+        (Refusal::WrongKind, _) => wrong_kind(number, signed?, variables.get(number)?),
+        (Refusal::WrongByteCount, _) => byte_count(number, bytes, variables.get(number)?),
+        (Refusal::DoesNotFit, Call::Write { number: wanted, .. }) => {
+            does_not_fit(number, *wanted, variables.get(number)?)
+        }
+        _ => None,
+    }
+}
+
+fn output_length(number: usize, bytes: &[u8], setting: &Setting) -> Option<String> {
+    let (_, output) = function(&setting.lent, number)?;
+    let given = counted(bytes.len(), "byte");
+    (bytes.len() != output).then(|| format!("{}; function {} gives {}", given, number, output))
+}
+
+fn byte_count(variable: usize, bytes: usize, record: &Variable) -> Option<String> {
+    let given = counted(bytes, "byte");
+    let text = || format!("{}; variable {} has {}", given, variable, record.size);
+    (bytes != usize::from(record.size)).then(text)
+}
+
+fn wrong_kind(variable: usize, signed: bool, record: &Variable) -> Option<String> {
+    let wrong = record.kind == Kind::Plain.number() || is_signed(record) != signed;
+    wrong.then(|| {
+        format!(
+            "variable {} is {}, and the number asked for is {}",
+            variable,
+            kind_name(record.kind),
+            sign_name(signed)
+        )
+    })
+}
+
+fn does_not_fit(variable: usize, number: i128, record: &Variable) -> Option<String> {
+    // A number has at most eight bytes; no record that is asked here has more.
+    let all = 1i128 << (8 * u32::from(record.size.min(8)));
+    let first = if is_signed(record) { -all / 2 } else { 0 };
+    let last = first + all - 1;
+    (!(first..=last).contains(&number)).then(|| {
+        format!(
+            "variable {} holds {} to {}, and not {}",
+            variable, first, last, number
         )
     })
 }

@@ -1,26 +1,98 @@
-//! A reply decoded: each field with what it means for this request.
+//! A reply decoded: each field with what it means for its request, or for any that it can answer.
 use super::bytes::counted;
+use super::call::Call;
 use super::commands::{reply_name, Field};
 use super::packet::Packet;
-use super::request::{checksum_part, numbers_part, size_part, values_parts};
+use super::request::{checksum_part, field_text, numbers_part, size_part, values_parts};
 use super::sheet::Part;
-use super::things::{curve_text, function_text, group, type_name, Curve, Setting};
+use super::things::{curve_text, function, function_text, group, group_text};
+use super::things::{type_name, Curve, Setting};
 use crate::lent::Lent;
 
-/// The parts of the reply to a request.
-pub fn parts(reply: Packet, request: Packet, setting: &Setting) -> Vec<Part> {
+/// The parts of the reply to a call.
+pub fn parts(reply: Packet, call: &Call, setting: &Setting) -> Vec<Part> {
+    let lent = &setting.lent;
+    let set = match call {
+        Call::Packet(request) => read(Packet(request), lent),
+        _ => None,
+    };
+    let payload = reply.payload();
+    let values = match (reply.code(), set) {
+        (Some(0x11 | 0x13), Some(set)) => Some(values_parts("value", set, payload, lent)),
+        _ => None,
+    };
+    with_payload(reply, values, lent)
+}
+
+/// The parts of a reply to a request that is not known: all values that are as long as what it has.
+pub fn likely_parts(reply: Packet, lent: &Lent) -> Vec<Part> {
+    let likely = match reply.code() {
+        Some(0x11) => variables(reply.payload(), lent),
+        Some(0x13) => groups(reply.payload(), lent),
+        Some(0x51) => functions(reply.payload(), lent),
+        _ => Vec::new(),
+    };
+    let found = (!likely.is_empty()).then(|| likely);
+    with_payload(reply, found, lent)
+}
+
+fn with_payload(reply: Packet, found: Option<Vec<Part>>, lent: &Lent) -> Vec<Part> {
     let mut parts = Vec::new();
-    if let (Some(destination), Some(code)) = (reply.destination(), reply.code()) {
-        parts.push(Part::new("destination", &[destination], "the master"));
+    if let Some(destination) = reply.destination() {
+        let meaning = match destination {
+            0 => "the master",
+            _ => "not the master",
+        };
+        parts.push(Part::new("destination", &[destination], meaning));
+    }
+    if let Some(code) = reply.code() {
         parts.push(Part::new("command", &[code], reply_name(code)));
         parts.extend(size_part(reply));
-        parts.extend(payload_parts(code, reply.payload(), request, &setting.lent));
-        parts.extend(checksum_part(reply));
+        parts.extend(found.unwrap_or_else(|| payload_parts(code, reply.payload(), lent)));
+    }
+    parts.extend(checksum_part(reply));
+    parts
+}
+
+// The payload as each variable that has so many bytes.
+fn variables(payload: &[u8], lent: &Lent) -> Vec<Part> {
+    let fits = |number: &usize| usize::from(lent.variables[*number].size) == payload.len();
+    let numbers = (0..lent.variables.len().min(64)).filter(fits);
+    numbers
+        .flat_map(|number| values_parts("value", 1 << number, payload, lent))
+        .collect()
+}
+
+// The payload as each group whose values have so many bytes.
+fn groups(payload: &[u8], lent: &Lent) -> Vec<Part> {
+    let mut parts = Vec::new();
+    for number in 0..lent.group_sets(&lent.groups).len() {
+        match group(lent, number) {
+            Some(group) if lent.set_bytes(group.set) == payload.len() => {
+                let text = group_text(group);
+                parts.push(Part::said("if group", number.to_string(), text));
+                parts.extend(values_parts("value", group.set, payload, lent));
+            }
+            _ => (),
+        }
     }
     parts
 }
 
-fn payload_parts(code: u8, payload: &[u8], request: Packet, lent: &Lent) -> Vec<Part> {
+// The payload as the output of each function that gives so many bytes.
+fn functions(payload: &[u8], lent: &Lent) -> Vec<Part> {
+    let fits =
+        |number: &usize| function(lent, *number).map(|(_, output)| output) == Some(payload.len());
+    let numbers = (0..lent.functions.len() / 2).filter(fits);
+    let part = |number: usize| {
+        let meaning = field_text(Field::Function, number, lent);
+        Part::new("output", payload, meaning)
+    };
+    numbers.map(part).collect()
+}
+
+fn payload_parts(code: u8, payload: &[u8], lent: &Lent) -> Vec<Part> {
+    let whole = |name: &str| vec![Part::new(name, payload, counted(payload.len(), "byte"))];
     match (code, payload) {
         (_, []) => Vec::new(),
         (0x01, [version, sub, revision]) => {
@@ -34,24 +106,19 @@ fn payload_parts(code: u8, payload: &[u8], request: Packet, lent: &Lent) -> Vec<
         (0x0D, _) => list(payload, 1, "function", |record| {
             function_text((usize::from(record[0] >> 4), usize::from(record[0] & 15)))
         }),
-        (0x11 | 0x13, _) => match read(request, lent) {
-            Some(set) => values_parts("value", set, payload, lent),
-            None => vec![Part::new("value", payload, "")],
-        },
-        (0x41, [curve, high, low, data @ ..]) => vec![
-            Part::new("curve", &[*curve], curve.to_string()),
-            Part::new(
-                "block",
-                &[*high, *low],
-                u16::from_be_bytes([*high, *low]).to_string(),
-            ),
-            Part::new("data", data, counted(data.len(), "byte")),
-        ],
-        _ => vec![Part::new(
-            "payload",
-            payload,
-            counted(payload.len(), "byte"),
-        )],
+        (0x11 | 0x13, _) => whole("value"),
+        (0x41, [curve, high, low, data @ ..]) => {
+            let block = u16::from_be_bytes([*high, *low]);
+            let curve_text = field_text(Field::Curve, usize::from(*curve), lent);
+            vec![
+                Part::new("curve", &[*curve], curve_text),
+                Part::new("block", &[*high, *low], format!("block {}", block)),
+                Part::new("data", data, counted(data.len(), "byte")),
+            ]
+        }
+        (0x51, _) => whole("output"),
+        (0x53, _) => whole("error"),
+        _ => whole("payload"),
     }
 }
 

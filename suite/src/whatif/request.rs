@@ -1,6 +1,8 @@
-//! A request decoded: each field with what it means on this board.
-use super::bytes::{checksum, counted, grouped};
+//! A request decoded, or another call: each field with what it means on this board.
+use super::bytes::{counted, grouped};
+use super::call::{due_name, sign_name, Call};
 use super::commands::{operation_name, Command, Field, Rest};
+use super::ended::due_text;
 use super::packet::Packet;
 use super::sheet::Part;
 use super::things::{
@@ -9,6 +11,62 @@ use super::things::{
 };
 use crate::lent::{members, Lent};
 use cruachvel::Address;
+
+/// The parts of a call.
+pub fn call_parts(call: &Call, setting: &Setting) -> Vec<Part> {
+    let lent = &setting.lent;
+    match call {
+        Call::Packet(request) => parts(Packet(request), setting),
+        Call::Store(variable, bytes) => board_parts(*variable, bytes, lent),
+        Call::Read {
+            signed,
+            variable,
+            bytes,
+        } => {
+            let mut parts = board_parts(*variable, bytes, lent);
+            parts.push(Part::said("asked for", sign_name(*signed), "a number"));
+            parts
+        }
+        Call::Write {
+            signed,
+            variable,
+            number,
+            room,
+        } => vec![
+            named_part("variable", Field::Variable, *variable, lent),
+            Part::said("number", number.to_string(), sign_name(*signed)),
+            Part::said("buffer", room.to_string(), counted(*room, "byte")),
+        ],
+        Call::Result {
+            function,
+            due,
+            failed,
+            bytes,
+        } => vec![
+            named_part("function", Field::Function, *function, lent),
+            Part::said("answer", due_name(*due), due_text(*due)),
+            if *failed {
+                Part::new("error", bytes, "the function failed")
+            } else {
+                Part::new("output", bytes, counted(bytes.len(), "byte"))
+            },
+        ],
+    }
+}
+
+fn named_part(name: &str, field: Field, number: usize, lent: &Lent) -> Part {
+    Part::said(name, number.to_string(), field_text(field, number, lent))
+}
+
+// A variable that the board names, and bytes for it.
+fn board_parts(variable: usize, bytes: &[u8], lent: &Lent) -> Vec<Part> {
+    let mut parts = vec![named_part("variable", Field::Variable, variable, lent)];
+    parts.extend(match lent.variables.get(variable) {
+        Some(_) if variable < 64 => values_parts("value", 1 << variable, bytes, lent),
+        _ => vec![Part::new("value", bytes, counted(bytes.len(), "byte"))],
+    });
+    parts
+}
 
 /// The parts of a request, as far as its bytes go.
 pub fn parts(request: Packet, setting: &Setting) -> Vec<Part> {
@@ -41,7 +99,7 @@ fn destination_text(destination: u8, address: Address) -> String {
 pub fn size_part(packet: Packet) -> Option<Part> {
     let follow = counted(packet.payload().len(), "byte");
     let meaning = match packet.size() {
-        Some(size) if size == packet.payload().len() => format!("{} of payload", follow),
+        Some(_) if packet.is_whole() => format!("{} of payload", follow),
         Some(size) => format!("{}, but the payload has {}", grouped(size), follow),
         None => "cut off".to_string(),
     };
@@ -51,8 +109,7 @@ pub fn size_part(packet: Packet) -> Option<Part> {
 
 /// The checksum of a request or a reply.
 pub fn checksum_part(packet: Packet) -> Option<Part> {
-    let sum = checksum(packet.0).wrapping_neg();
-    let meaning = match sum {
+    let meaning = match packet.sum() {
         0 => "the sum is 0".to_string(),
         sum => format!("the sum is {:02X}", sum),
     };
@@ -91,7 +148,8 @@ fn field_part(field: Field, bytes: &[u8], request: Packet, lent: &Lent) -> Part 
     Part::new(name, bytes, meaning)
 }
 
-fn field_text(field: Field, value: usize, lent: &Lent) -> String {
+/// A number that a payload has in place of a field, in words.
+pub fn field_text(field: Field, value: usize, lent: &Lent) -> String {
     let (name, text) = match field {
         Field::Variable => ("variable", lent.variables.get(value).map(variable_text)),
         Field::VariableRead => {

@@ -1,10 +1,12 @@
-//! The rule of 01 that decided a packet.
+//! The rule of 01 that decided a call.
 use super::bytes::summed;
+use super::call::Call;
 use super::commands::{Command, COMMANDS};
+use super::ended::{Came, Ended};
 use super::packet::Packet;
 use super::refusals;
 use super::steps::{step_of, Step, STEPS};
-use super::{Ended, Setting};
+use super::things::Setting;
 use cruachvel::Refusal;
 
 /// A rule of 01, and what made it apply.
@@ -16,6 +18,8 @@ pub enum Rule {
     Step(&'static Step, String),
     /// No refusal and no wire error: the command's row.
     Row(&'static Command),
+    /// No refusal: what 01 says of such a call.
+    Sentence(&'static str),
     /// A multicast packet: what its message would have been answered with, and by which rule.
     Multicast(Ended, Box<Rule>),
     /// None that is known to give this outcome for these bytes.
@@ -24,6 +28,19 @@ pub enum Rule {
 
 const MULTICAST: &str =
     "Packets to 248..255 are carried out if the multicast byte has that address, and never answered.";
+
+const STORE: &str =
+    "The board may store a new value into any variable, read-only or busy too; only those bytes change.";
+pub const RESULT: &str =
+    "Handed the result, and whether an answer was due, the node writes reply 51 with the output, or 53 with one error byte; if none was due, it stays silent.";
+const SIGNED: &str =
+    "For signed kinds the sign is the top bit of the most significant byte: n bytes with unsigned value u mean u, or u − 2^(8n) if u ≥ 2^(8n−1).";
+const UNSIGNED: &str =
+    "plain bytes, unsigned or signed; big or little endian; a number has size 1, 2, 4 or 8";
+const WAY_BACK: &str =
+    "The way back accepts exactly the numbers of that range and writes the only bytes that read as them.";
+pub const BUSY: &str =
+    "Busy marks, bit n of a 64-bit number for variable n (higher bits count for nothing), come from the board with each packet.";
 
 impl Rule {
     pub fn lines(&self) -> Vec<String> {
@@ -37,10 +54,8 @@ impl Rule {
                 ),
                 reason.clone(),
             ],
-            Rule::Step(step, reason) => vec![
-                format!("step {} of the wire errors: \"{}\"", step.number, step.words),
-                reason.clone(),
-            ],
+            Rule::Step(step, reason) => vec![step.text(), reason.clone()],
+            Rule::Sentence(sentence) => vec![format!("no refusal; \"{}\"", sentence)],
             Rule::Row(command) => vec![format!(
                 "no refusal and no wire error; the command's row: {}",
                 command.row()
@@ -52,6 +67,15 @@ impl Rule {
                 lines
             }
             Rule::None => vec!["none of 01's rules is known to give this outcome for these bytes; please report it".to_string()],
+        }
+    }
+
+    /// The number of the step of the wire errors, also of one that a multicast kept quiet.
+    pub fn step(&self) -> Option<u8> {
+        match self {
+            Rule::Step(step, _) => Some(step.number),
+            Rule::Multicast(_, rule) => rule.step(),
+            _ => None,
         }
     }
 
@@ -74,7 +98,34 @@ pub fn quotes() -> Vec<String> {
         format!("| {} | {} | {} |", number, refusal, condition)
     });
     let all = steps.chain(rows).chain(conditions);
-    all.chain([MULTICAST.to_string()]).collect()
+    let sentences = [MULTICAST, STORE, RESULT, SIGNED, UNSIGNED, WAY_BACK, BUSY];
+    all.chain(sentences.map(str::to_string)).collect()
+}
+
+/// The rule that gave this to a call, on the board as it was before.
+pub fn rule_of(call: &Call, came: &Came, before: &Setting) -> Rule {
+    match (call, came) {
+        (Call::Packet(request), Came::Ended(ended)) => rule(ended, Packet(request), before),
+        (_, Came::Ended(Ended::Refused(refusal))) => refused(*refusal, call, before),
+        _ => sentence(call),
+    }
+}
+
+fn refused(refusal: Refusal, call: &Call, before: &Setting) -> Rule {
+    refusals::call_reason(refusal, call, before)
+        .map_or(Rule::None, |reason| Rule::Refusal(refusal, reason))
+}
+
+// What 01 says of a call that is not refused.
+fn sentence(call: &Call) -> Rule {
+    Rule::Sentence(match call {
+        Call::Packet(_) => return Rule::None,
+        Call::Store(..) => STORE,
+        Call::Result { .. } => RESULT,
+        Call::Read { signed: true, .. } => SIGNED,
+        Call::Read { signed: false, .. } => UNSIGNED,
+        Call::Write { .. } => WAY_BACK,
+    })
 }
 
 /// The rule that gave this outcome to a request, on the board as it was before.

@@ -4,7 +4,7 @@
 use super::bytes::{counted, grouped};
 use super::commands::{operation_name, Command, Field, Rest};
 use super::packet::Packet;
-use super::things::{curve, function, group, set_text, Setting};
+use super::things::{busy_text, curve, function, group, missing, Setting};
 
 /// A step of 01's list of wire errors, in 01's words.
 #[derive(Debug, PartialEq, Eq)]
@@ -43,6 +43,13 @@ pub fn step_of(error: u8, request: Packet, setting: &Setting) -> Option<(&'stati
 }
 
 impl Step {
+    pub fn text(&self) -> String {
+        format!(
+            "step {} of the wire errors: \"{}\"",
+            self.number, self.words
+        )
+    }
+
     /// Why this step's condition holds for a request, if it does. Other steps are not looked at.
     pub fn reason(&self, request: Packet, setting: &Setting) -> Option<String> {
         if self.number == 1 {
@@ -69,7 +76,8 @@ impl Step {
     }
 }
 
-fn malformed(request: Packet) -> Option<String> {
+/// What is wrong with the form of a request's message, or a reply's.
+pub fn malformed(request: Packet) -> Option<String> {
     let message = request.message().len();
     match request.size() {
         _ if message < 3 => Some(format!("the message has {}", counted(message, "byte"))),
@@ -120,16 +128,9 @@ fn unknown_thing(request: Packet, setting: &Setting) -> Option<String> {
         .members()
         .iter()
         .map(|number| (usize::from(*number), "variable", lent.variables.len()));
-    let (number, name, count) = named
+    named
         .chain(members)
-        .find(|(number, _, count)| number >= count)?;
-    let last = count
-        .checked_sub(1)
-        .map_or("has none".to_string(), |last| format!("has 0 to {}", last));
-    Some(format!(
-        "there is no {} {}: the board {}",
-        name, number, last
-    ))
+        .find_map(|(number, name, count)| missing(name, number, count))
 }
 
 fn unknown_operation(request: Packet) -> Option<String> {
@@ -242,8 +243,7 @@ fn busy(command: &Command, request: Packet, setting: &Setting) -> Option<String>
         Rest::Value | Rest::Mask => target.set & setting.busy,
         _ => 0,
     };
-    let verb = if busy.count_ones() == 1 { "is" } else { "are" };
-    (busy != 0).then(|| format!("{} {} busy", set_text(busy), verb))
+    (busy != 0).then(|| busy_text(busy))
 }
 
 fn groups_full(command: &Command, setting: &Setting) -> Option<String> {

@@ -71,12 +71,27 @@ pub fn number(lent: &Lent, variable: usize, bytes: &[u8]) -> Option<i128> {
     signed.or_else(|_| unsigned()).ok()
 }
 
+/// What is said of a number from which on there are no such things, if it is one.
+pub fn missing(name: &str, number: usize, count: usize) -> Option<String> {
+    let has = match count.checked_sub(1) {
+        None => "has none".to_string(),
+        Some(last) => format!("has 0 to {}", last),
+    };
+    (number >= count).then(|| format!("there is no {} {}: the board {}", name, number, has))
+}
+
 pub fn type_name(writable: bool) -> &'static str {
     if writable {
         "writable"
     } else {
         "read-only"
     }
+}
+
+/// Whether the variable is a signed number.
+pub fn is_signed(record: &Variable) -> bool {
+    let signed = [Kind::SignedBig, Kind::SignedLittle].map(Kind::number);
+    signed.contains(&record.kind)
 }
 
 pub fn kind_name(kind: u8) -> String {
@@ -104,6 +119,12 @@ pub fn set_text(set: u64) -> String {
         1 => format!("variable {}", set.trailing_zeros()),
         _ => format!("variables {}", listed(members(set))),
     }
+}
+
+/// A set of busy variables in words.
+pub fn busy_text(set: u64) -> String {
+    let verb = if set.count_ones() == 1 { "is" } else { "are" };
+    format!("{} {} busy", set_text(set), verb)
 }
 
 pub fn variable_text(record: &Variable) -> String {

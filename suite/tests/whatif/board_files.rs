@@ -1,5 +1,5 @@
 //! Board files, and what is said to those that can't be read.
-use crate::board_a_idle;
+use crate::{board_a_idle, explained};
 use suite::whatif::board_file::parse;
 use suite::whatif::{table, Setting};
 
@@ -67,18 +67,49 @@ fn a_board_file_may_describe_what_01_refuses() {
             "group 3 has variables that are not declared: 4",
         ),
         ("", "0 variables; 1 to 64 are allowed"),
+        (
+            "variable writable 3 signed big value -3",
+            "variable 0 is a number of 3 bytes; a number has 1, 2, 4 or 8",
+        ),
+        (
+            "variable writable 0 plain",
+            "variable 0 has 0 bytes; 1 to 127 are allowed",
+        ),
+        (
+            "variable writable 1 plain\nfunction 16 255",
+            "function 0 has 16 bytes of input; 0 to 15 are allowed",
+        ),
+        (
+            "variable writable 1 plain\ncurve writable 4294967295 2 bytes 0102",
+            "curve 0 has blocks of 4,294,967,295 bytes; 1 to 4,096 are allowed",
+        ),
+        (
+            "variable writable 1 plain\ngroup 0\ngroup 0\ngroup 0\ngroup 0\ngroup 0\ngroup 0",
+            "6 made groups; 0 to 5 are allowed",
+        ),
     ];
     for (lines, reason) in wrong {
         let setting = parse(&format!("address 5\n{}", lines)).expect(lines);
         assert_eq!(table::broken(&setting.lent).as_deref(), Some(reason));
+        let text = explained(&mut setting.clone(), "05 00 00 00 FB");
+        assert!(text.contains("outcome   refused with 1, board unusable"));
     }
 }
 
 const MISTAKES: &[(&str, &str)] = &[
         ("addres 5", "line 2: \"addres\" is none of address, multicast, variable, curve, function, group, busy, values and blocks"),
         ("address", "line 2: the address is missing"),
-        ("address 256", "line 2: the address is a number from 0 to 255, and not \"256\""),
-        ("address 5\naddress 6", "line 3: a board has one address"),
+        ("address 256", "line 2: the address can't be 256: what the node is lent has room for 0 to 255 there"),
+        ("address -1", "line 2: the address can't be -1: what the node is lent has room for 0 to 255 there"),
+        ("address five", "line 2: the address is a number, and not \"five\""),
+        ("variable writable 300 plain", "line 2: the size can't be 300: what the node is lent has room for 0 to 255 there"),
+        ("function 1 256", "line 2: the output can't be 256: what the node is lent has room for 0 to 255 there"),
+        ("curve writable 1 4294967296", "line 2: the number of blocks can't be 4294967296: what the node is lent has room for 0 to 4294967295 there"),
+        ("address 5\naddress 6", "line 3: a board has one line with address"),
+        ("multicast 81\n\nmulticast 81", "line 4: a board has one line with multicast"),
+        ("busy 0\nbusy 1", "line 3: a board has one line with busy"),
+        ("values\nvalues", "line 3: a board has one line with values"),
+        ("blocks 01\nblocks 01", "line 3: a board has one line with blocks"),
         ("address 5 6", "line 2: \"6\" is too much"),
         ("multicast 8G", "line 2: \"8G\" is no bytes in hex"),
         ("multicast 81 82", "line 2: the multicast byte is one byte in hex"),
@@ -90,12 +121,11 @@ const MISTAKES: &[(&str, &str)] = &[
         ("variable writable 1 unsigned big value x", "line 2: \"x\" is no number of 64 bits"),
         ("variable writable 2 plain bytes 01", "line 2: the variable has 2 bytes, and 1 are given"),
         ("variable writable 2 plain 01", "line 2: \"01\" is neither value nor bytes"),
-        ("address 5\ncurve writable 1 1 bytes 0102", "line 3: the curve has not so many bytes"),
+        ("address 5\ncurve writable 1 1 bytes 0102", "line 3: the curve has 1 byte, and 2 are given"),
         ("curve writable 1 1 0102", "line 2: \"0102\" stands where bytes can stand"),
         ("curve writable 1", "line 2: the number of blocks is missing"),
         ("function 1", "line 2: the output is missing"),
-        ("busy 64", "line 2: a variable is a number from 0 to 63, and not 64"),
-        ("group 0\ngroup 0\ngroup 0\ngroup 0\ngroup 0\ngroup 0", "line 7: the group table has room for five made groups"),
+        ("busy 64", "line 2: a variable is a number from 0 to 63, and not \"64\""),
         ("busy 0", "the line with the address is missing"),
     ];
 

@@ -1,12 +1,17 @@
-//! whatif: what it prints, that its rules fit whatever the proved node does, and what it says to files and packets that it can't read.
+//! whatif: what it prints, that its rules fit whatever the proved node does, and what it says to files and lines that it can't read.
 mod board_files;
+mod call_rules;
+mod calls;
+mod captured;
+mod hex;
+mod json;
 mod printed;
 mod program;
 mod rules;
+mod tool;
 
 use suite::boards::board_a;
-use suite::whatif::bytes::bytes;
-use suite::whatif::{explain, Setting};
+use suite::whatif::{Session, Setting};
 
 fn board_a_idle() -> Setting {
     Setting {
@@ -15,6 +20,13 @@ fn board_a_idle() -> Setting {
     }
 }
 
-fn explained(setting: &mut Setting, packet: &str) -> String {
-    explain(setting, &bytes(packet).expect("hex"))
+// What a line is explained with, on this board.
+fn explained(setting: &mut Setting, line: &str) -> String {
+    let mut session = Session {
+        setting: setting.clone(),
+        sum: false,
+    };
+    let sheet = session.tell(line).expect(line);
+    *setting = session.setting;
+    sheet.lines()
 }

@@ -2,28 +2,8 @@
 use std::io::Write;
 use std::process::{Output, Stdio};
 use suite::run::program;
-use suite::whatif::bytes::bytes;
 
-#[test]
-fn bad_hex_is_told_with_its_place() {
-    assert_eq!(bytes("0510 00\t01 "), Ok(vec![5, 0x10, 0, 1]));
-    assert_eq!(bytes(""), Ok(vec![]));
-    let wrong = [
-        ("05 2G", "'G' at place 5 is no hex digit"),
-        ("0x05", "'x' at place 2 is no hex digit"),
-        (
-            "05 2 00",
-            "a byte has two digits, and at place 4 stands one",
-        ),
-        ("051", "a byte has two digits, and at place 3 stands one"),
-        ("05 é0", "'é' at place 4 is no hex digit"),
-    ];
-    for (text, message) in wrong {
-        assert_eq!(bytes(text), Err(message.to_string()));
-    }
-}
-
-fn whatif(arguments: &[&str], input: &str) -> Output {
+pub fn whatif(arguments: &[&str], input: &str) -> Output {
     let mut child = program(env!("CARGO_BIN_EXE_whatif"))
         .args(arguments)
         .stdin(Stdio::piped())
@@ -40,7 +20,7 @@ fn whatif(arguments: &[&str], input: &str) -> Output {
     child.wait_with_output().expect("it ends")
 }
 
-fn said(output: &Output) -> (Option<i32>, String) {
+pub fn said(output: &Output) -> (Option<i32>, String) {
     let text = String::from_utf8_lossy(&output.stderr);
     (
         output.status.code(),
@@ -48,28 +28,42 @@ fn said(output: &Output) -> (Option<i32>, String) {
     )
 }
 
+// Arguments, how the program ends, and the first line that it says.
 const MISUSES: &[(&[&str], i32, &str)] = &[
-    (&["--sun"], 2, "--sun is no option"),
-    (&["--board"], 2, "--board takes something after it"),
     (
         &["--busy", "64"],
         2,
-        "--busy takes numbers from 0 to 63 with commas between them, and not \"64\"",
+        "whatif: --busy: a variable is a number from 0 to 63, and not \"64\"",
+    ),
+    (
+        &["--busy=1,x"],
+        2,
+        "whatif: --busy: a variable is a number from 0 to 63, and not \"x\"",
     ),
     (
         &["05", "FB"],
         2,
-        "each argument is a whole packet: put it in quotes",
+        "whatif: each argument is a whole line: put it in quotes",
     ),
     (
-        &["05 F"],
+        &["--sum", "05", "05 F"],
         1,
-        "packet 1: a byte has two digits, and at place 4 stands one",
+        "whatif: argument 3: a byte has two digits, and at place 4 stands one",
     ),
     (
-        &["--board", "no-such-file"],
+        &["stroe 1 66"],
         1,
-        "no-such-file: No such file or directory (os error 2)",
+        "whatif: argument 1: \"stroe\" is neither bytes in hex nor packet, store, read, write, result or busy",
+    ),
+    (
+        &["--reply", "00 1G"],
+        1,
+        "whatif: --reply: 'G' at place 5 is no hex digit",
+    ),
+    (
+        &["--board", "/"],
+        1,
+        "whatif: /: Is a directory (os error 21)",
     ),
 ];
 
@@ -80,14 +74,24 @@ fn the_program_ends_with_what_it_promises() {
         assert_eq!(said(&output), (Some(*status), message.to_string()));
     }
     let output = whatif(&[], "# one\n\n05 FB\nxx\n");
-    assert_eq!(
-        said(&output),
-        (
-            Some(1),
-            "line 4: 'x' at place 1 is no hex digit".to_string()
-        )
-    );
+    let message = "whatif: line 4: \"xx\" is neither bytes in hex nor packet, store, read, write, result or busy";
+    assert_eq!(said(&output), (Some(1), message.to_string()));
     assert!(output.stdout.starts_with(b"packet    05 FB\n"));
+}
+
+#[test]
+fn a_mistake_in_a_board_file_is_told_with_file_and_line() {
+    let path = std::env::temp_dir().join(format!("whatif-{}.board", std::process::id()));
+    std::fs::write(&path, "address 5\nvariable writable 300 plain\n").expect("a file");
+    let name = path.display().to_string();
+    let output = whatif(&[&format!("--board={}", name), "05 FB"], "");
+    std::fs::remove_file(&path).expect("the file");
+    let message = format!(
+        "whatif: {}: line 2: the size can't be 300: what the node is lent has room for 0 to 255 there",
+        name
+    );
+    assert_eq!(said(&output), (Some(1), message));
+    assert!(output.stdout.is_empty());
 }
 
 #[test]
@@ -104,11 +108,4 @@ fn the_program_explains_arguments_and_lines_alike() {
         "{}",
         text
     );
-}
-
-#[test]
-fn help_tells_how_board_files_are_written() {
-    let output = whatif(&["--help"], "");
-    let text = String::from_utf8_lossy(&output.stdout);
-    assert!(text.contains("variable read-only 4 signed big value -3"));
 }

@@ -6,6 +6,7 @@ use suite::boards::usable;
 use suite::faults::faults;
 use suite::packets::Drawer;
 use suite::random::Random;
+use suite::whatif::call::Call;
 use suite::whatif::packet::Packet;
 use suite::whatif::refusals;
 use suite::whatif::steps::{Step, STEPS};
@@ -60,7 +61,7 @@ impl Met {
                 assert!(!matches!(**rule, Rule::Refusal(..) | Rule::Multicast(..)));
                 self.check(rule, request, before);
             }
-            Rule::None => panic!("{}", told()),
+            Rule::Sentence(_) | Rule::None => panic!("{}", told()),
         }
     }
 }
@@ -95,7 +96,7 @@ fn one(random: &mut Random, setting: &mut Setting, met: &mut Met) {
     }
     setting.busy = draft.busy;
     let before = setting.clone();
-    let text = explain(setting, &request);
+    let text = explain(setting, &Call::Packet(request.clone())).lines();
     let ended = before.would(&request);
     assert!(
         text.contains(&format!("outcome   {}\n", ended.text())),

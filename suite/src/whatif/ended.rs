@@ -1,0 +1,217 @@
+//! What a call ends in, and the proved node that carries calls out.
+use super::bytes::{hex, shown};
+use super::call::{due_name, Call};
+use super::commands::reply_name;
+use super::packet::Packet;
+use super::Setting;
+use crate::lent::Lent;
+use cruachvel::{Outcome, Ran, Refusal, VariableNumber, MOST_PACKET};
+
+/// What a packet or a function's result ended in.
+#[derive(Clone, Debug, PartialEq, Eq)]
+pub enum Ended {
+    Reply(Vec<u8>),
+    Silence,
+    Run {
+        function: usize,
+        input: Vec<u8>,
+        due: bool,
+    },
+    Refused(Refusal),
+}
+
+impl Ended {
+    pub fn of(outcome: Outcome) -> Ended {
+        match outcome {
+            Outcome::Reply(reply) => Ended::Reply(reply.to_vec()),
+            Outcome::Silence => Ended::Silence,
+            Outcome::Run {
+                function,
+                input,
+                due,
+            } => Ended::Run {
+                function: function.0,
+                input: input.to_vec(),
+                due,
+            },
+            Outcome::Refused(refusal) => Ended::Refused(refusal),
+        }
+    }
+
+    /// The code of the reply, if there is one.
+    pub fn code(&self) -> Option<u8> {
+        match self {
+            Ended::Reply(reply) => Packet(reply).code(),
+            _ => None,
+        }
+    }
+
+    pub fn text(&self) -> String {
+        match self {
+            Ended::Reply(_) => self.code().map_or("an empty reply".to_string(), |code| {
+                format!("reply {:02X}, {}", code, reply_name(code))
+            }),
+            Ended::Silence => "silence".to_string(),
+            Ended::Run {
+                function,
+                input,
+                due,
+            } => {
+                let input = shown(input);
+                let due = due_text(*due);
+                format!(
+                    "function {} is to be run, input {}; {}",
+                    function, input, due
+                )
+            }
+            Ended::Refused(refusal) => format!("refused with {}, {}", refusal.number(), refusal),
+        }
+    }
+
+    // As a line of the cases says it.
+    fn line(&self) -> String {
+        match self {
+            Ended::Reply(reply) => format!("reply {}", hex(reply)),
+            Ended::Silence => "silence".to_string(),
+            Ended::Run {
+                function,
+                input,
+                due,
+            } => format!("run {} {} {}", function, due_name(*due), hex(input)),
+            Ended::Refused(refusal) => format!("refused {}", refusal.number()),
+        }
+    }
+}
+
+pub fn due_text(due: bool) -> &'static str {
+    if due {
+        "an answer is due"
+    } else {
+        "no answer is due"
+    }
+}
+
+/// What a call came to. Whatever was refused has ended so.
+#[derive(Clone, Debug, PartialEq, Eq)]
+pub enum Came {
+    Ended(Ended),
+    Done,
+    Number(i128),
+    Bytes(Vec<u8>),
+}
+
+impl Came {
+    pub fn of<T>(result: Result<T, Refusal>, came: impl Fn(T) -> Came) -> Came {
+        result.map_or_else(|refusal| Came::Ended(Ended::Refused(refusal)), came)
+    }
+
+    /// With a reply buffer in which the reply alone may have been written.
+    pub fn sent(ended: Ended, buffer: &[u8]) -> Came {
+        let length = match &ended {
+            Ended::Reply(reply) => reply.len(),
+            _ => 0,
+        };
+        let kept = buffer[length..].iter().all(|byte| *byte == FILLING);
+        assert!(kept, "{:?} wrote more than its reply", ended);
+        Came::Ended(ended)
+    }
+
+    pub fn text(&self) -> String {
+        match self {
+            Came::Ended(ended) => ended.text(),
+            Came::Done => "the value is stored".to_string(),
+            Came::Number(number) => format!("the number {}", number),
+            Came::Bytes(bytes) => format!("the bytes {}", shown(bytes)),
+        }
+    }
+
+    /// The outcome, as a line of the cases says it.
+    pub fn line(&self) -> String {
+        let line = match self {
+            Came::Ended(ended) => ended.line(),
+            Came::Done => "done".to_string(),
+            Came::Number(number) => format!("number {}", number),
+            Came::Bytes(bytes) => format!("bytes {}", hex(bytes)),
+        };
+        line.trim_end().to_string()
+    }
+}
+
+/// What stands in a buffer until it is written.
+pub const FILLING: u8 = 0x5C;
+
+/// The proved node: it carries out a call on what a board lends, with these busy marks.
+pub fn proved(lent: &mut Lent, busy: u64, call: &Call) -> Came {
+    let mut reply = [FILLING; MOST_PACKET];
+    match call {
+        Call::Packet(request) => {
+            let ended = Ended::of(lent.packet(busy, request, &mut reply));
+            Came::sent(ended, &reply)
+        }
+        Call::Result {
+            function,
+            due,
+            failed,
+            bytes,
+        } => {
+            let ran = match bytes.first() {
+                Some(error) if *failed => Ran::Failed(*error),
+                _ => Ran::Gave(bytes),
+            };
+            let ended = Ended::of(lent.function_result(*function, *due, ran, &mut reply));
+            Came::sent(ended, &reply)
+        }
+        Call::Store(variable, bytes) => {
+            Came::of(lent.board_store(*variable, bytes), |()| Came::Done)
+        }
+        Call::Read {
+            signed,
+            variable,
+            bytes,
+        } => Came::of(
+            proved_read(lent, *signed, VariableNumber(*variable), bytes),
+            Came::Number,
+        ),
+        Call::Write {
+            signed,
+            variable,
+            number,
+            room,
+        } => {
+            let mut buffer = vec![FILLING; *room];
+            let variable = VariableNumber(*variable);
+            let written = if *signed {
+                cruachvel::write_signed(&lent.variables, variable, *number as i64, &mut buffer)
+            } else {
+                cruachvel::write_unsigned(&lent.variables, variable, *number as u64, &mut buffer)
+            };
+            Came::of(written, |()| Came::Bytes(buffer.clone()))
+        }
+    }
+}
+
+fn proved_read(
+    lent: &Lent,
+    signed: bool,
+    variable: VariableNumber,
+    bytes: &[u8],
+) -> Result<i128, Refusal> {
+    if signed {
+        cruachvel::read_signed(&lent.variables, variable, bytes).map(i128::from)
+    } else {
+        cruachvel::read_unsigned(&lent.variables, variable, bytes).map(i128::from)
+    }
+}
+
+impl Setting {
+    /// The proved node's call; the setting is as it leaves it.
+    pub fn call(&mut self, call: &Call) -> Came {
+        proved(&mut self.lent, self.busy, call)
+    }
+
+    /// What a packet would end in, with nothing changed.
+    pub fn would(&self, request: &[u8]) -> Ended {
+        let mut lent = self.lent.clone();
+        Ended::of(lent.packet(self.busy, request, &mut [0; MOST_PACKET]))
+    }
+}

@@ -1,0 +1,78 @@
+//! A call explained: what came of it, which rule decided, and what changed.
+use super::bytes::{checksum, summed};
+use super::call::{due_name, Call};
+use super::changes::changes;
+use super::ended::{Came, Ended};
+use super::packet::Packet;
+use super::sheet::Sheet;
+use super::things::function;
+use super::{reply, request, rule_of, Setting};
+use cruachvel::Refusal;
+
+/// Carries out a call and says what came of it and why.
+pub fn explain(setting: &mut Setting, call: &Call) -> Sheet {
+    let before = setting.clone();
+    let came = setting.call(call);
+    let rule = rule_of(call, &came, &before);
+    let mut sheet = Sheet::default();
+    put_call(&mut sheet, call, &before);
+    sheet.text("outcome", came.text());
+    sheet.word("ended", came.line());
+    sheet.number("step", rule.step());
+    sheet.list("rule", rule.lines());
+    if let Some(hint) = hint(&came, call, &before) {
+        sheet.text("hint", hint);
+    }
+    if let Came::Ended(Ended::Reply(bytes)) = &came {
+        let parts = reply::parts(Packet(bytes), call, &before);
+        sheet.packet("reply", bytes, parts);
+    }
+    sheet.list("changed", changes(&before.lent, &setting.lent));
+    sheet
+}
+
+fn put_call(sheet: &mut Sheet, call: &Call, before: &Setting) {
+    let parts = request::call_parts(call, before);
+    match (call, call.words()) {
+        (Call::Packet(request), (keyword, _)) => sheet.packet(keyword, request, parts),
+        (_, (keyword, words)) => sheet.words(keyword, words, parts),
+    }
+}
+
+fn hint(came: &Came, call: &Call, before: &Setting) -> Option<String> {
+    match (came, call) {
+        (Came::Ended(Ended::Refused(Refusal::Checksum)), Call::Packet(request)) => {
+            Some(checksum_hint(request, before))
+        }
+        (Came::Ended(Ended::Run { function, due, .. }), _) => result_hint(*function, *due, before),
+        _ => None,
+    }
+}
+
+// What the packet would have ended in with the right checksum, which may have been left out.
+fn checksum_hint(request: &[u8], before: &Setting) -> String {
+    let whole = summed(request);
+    if Packet(&whole).is_whole() {
+        return format!(
+            "the checksum seems to be left out: with {:02X} added, as --sum does, the outcome would be: {}",
+            checksum(request), before.would(&whole).text()
+        );
+    }
+    let message = request.split_last().map_or(request, |(_, message)| message);
+    format!(
+        "with {:02X} as its last byte the outcome would be: {}",
+        checksum(message),
+        before.would(&summed(message)).text()
+    )
+}
+
+// How the function's result is handed in.
+fn result_hint(number: usize, due: bool, before: &Setting) -> Option<String> {
+    let (_, output) = function(&before.lent, number)?;
+    let line = format!("result {} {}", number, due_name(due));
+    let output = " ..".repeat(output);
+    Some(format!(
+        "the line for its result is: {} gave{}, or: {} failed ..",
+        line, output, line
+    ))
+}
