@@ -1,9 +1,10 @@
 //! The cases as a table in C, for ctest/cases.c: each call with what came of it on a node, and a digest of the state that it left.
-use super::file::{Act, Call, Case};
-use super::nodes::{Came, Node};
+use super::file::{Act, Case};
+use super::nodes::Node;
 use super::Boards;
 use crate::lent::Lent;
-use crate::whatif::Ended;
+use crate::whatif::call::Call;
+use crate::whatif::ended::{Came, Ended};
 use std::fmt::Display;
 
 /// The table, or why there is none. Whether the cases hold is for others to see.
@@ -14,7 +15,7 @@ pub fn table(cases: &[Case], boards: &Boards, node: Node) -> Result<String, Stri
         let board = board(&mut text, case.line, &setting.lent);
         let mut acts = Vec::new();
         for act in &case.acts {
-            let busy = setting.busy | act.busy;
+            let busy = act.busy.unwrap_or(setting.busy);
             let came = node(&mut setting.lent, busy, &act.call);
             let (call, came) = (call(&mut text, act), came_to(&mut text, act, &came));
             let left = digest(&setting.lent);
