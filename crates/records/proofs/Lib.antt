@@ -1,6 +1,8 @@
 pub mod Walk
 pub mod Lending
 pub mod Checks
+pub mod Pairs
+pub mod Thirds
 pub mod Counting
 pub mod Sound
 pub mod Blocks

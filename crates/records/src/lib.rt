@@ -9,7 +9,7 @@ ghost use mathlib.Core.Path.{_≡_};
 ghost use mathlib.Core.Bool.{true, _&&_};
 ghost use mathlib.Core.List.{[], _∷_, _++_};
 ghost use Prim.Native.Nat.{_+_, _^_, _≤_, _<_};
-ghost use lib.Dec.{eqb, leb, ltb};
+ghost use lib.Dec.{eqb, ltb};
 ghost use lib.ListN.{length, take, getD, set};
 ghost use Rattle.bsmp.specs.Base.{some};
 ghost use Rattle.bsmp.specs.Codes.{kindOf};
@@ -199,23 +199,31 @@ fn usable_curve(c: Curve) -> bool
     c.blocks <= 65536
 }
 
-// The rules of the curve records, with what their blocks add up to; each is tested before it counts, so that the sum fits.
+// The rules of the curve records, with what their blocks add up to; each is tested before it counts, so that the sum fits. A record that
+// is cut off breaks them.
 pub fn usable_curves(curves: &[u32]) -> CurvesChecked
     ensures { λ r. ⌜ r ≡ curvesCheckedOf (curvesOf (now (curves .entry))) ⌝ }
 {
-    let n = curve_count(curves);
-    if 8 < n {
+    let n = curves.len();
+    if 24 < n {
+        return CurvesChecked::REFUSED;
+    }
+    if n % 3 != 0 {
         return CurvesChecked::REFUSED;
     }
     let mut total: usize = 0;
     let mut i = 0;
     while i < n {
-        let c = curve_at(curves, CurveNumber(i));
+        let c = Curve {
+            writable: curves[i],
+            size: curves[i + 1],
+            blocks: curves[i + 2],
+        };
         if !usable_curve(c) {
             return CurvesChecked::REFUSED;
         }
         total += c.size as usize * c.blocks as usize;
-        i += 1;
+        i += 3;
     }
     if 65536 < total {
         return CurvesChecked::REFUSED;
@@ -269,32 +277,24 @@ pub fn function_at(functions: &[u8], f: FunctionNumber) -> Function
     }
 }
 
-fn usable_function(f: Function) -> bool
-    ensures { λ r. ⌜ r ≡ (leb (f .input) 15 && leb (f .output) 15) ⌝ }
-{
-    if 15 < f.input {
-        return false;
-    }
-    f.output <= 15
-}
-
-// The rules of the function records.
+// The rules of the function records, of all bytes at once: no bit of theirs is above the four of 15. A record that is cut off breaks them.
 pub fn usable_functions(functions: &[u8]) -> bool
     ensures { λ r. ⌜ r ≡ usableFunctions (functionsOf (now (functions .entry))) ⌝ }
 {
-    let n = function_count(functions);
-    if 16 < n {
+    let n = functions.len();
+    if 32 < n {
         return false;
     }
+    if n % 2 == 1 {
+        return false;
+    }
+    let mut bits: u8 = 0;
     let mut i = 0;
     while i < n {
-        let f = function_at(functions, FunctionNumber(i));
-        if !usable_function(f) {
-            return false;
-        }
+        bits = bits | functions[i];
         i += 1;
     }
-    true
+    bits <= 15
 }
 
 // Whether a set has members, and only declared ones: none is left past the last variable. With 64 variables, which is too far
