@@ -1,6 +1,9 @@
 pub mod Walk
 pub mod Lending
 pub mod Checks
+pub mod Pairs
+pub mod Thirds
+pub mod Pieces
 pub mod Counting
 pub mod Sound
 pub mod Blocks

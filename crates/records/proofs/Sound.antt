@@ -1,19 +1,19 @@
 -- What a usable board lets its caller lean on: the bounds of 01's table. Assumes nothing.
 use mathlib.Core.Path.{_≡_}
-use mathlib.Core.Bool.{Bool, true}
-use mathlib.Core.List.{List, [], _∷_}
-use Prim.Native.Nat.{ℕ, zero, suc, _^_, _≤_, _<_}
-use native.Mathlib.Omega.{arith}
+use mathlib.Core.Bool.{true}
+use mathlib.Core.List.{List}
+use Prim.Native.Nat.{ℕ, _^_, _≤_, _<_}
 use lib.Dec.{leb}
 use lib.ListN.{length, getD}
 use borrow.Author.Tests.{leb-true, ltb-true}
-use Rattle.bsmp.specs.Base.{sum, every}
+use Rattle.bsmp.specs.Base.{sum}
 use Rattle.bsmp.specs.Board.{Table, blankCurve, blankFunction, layout, sizesOf, blockSizes, variableRules, usableVariables, usableCurve, curveRules, usableCurves, usableFunctions, usableGroups, usable}
 use Rattle.bsmp.specs.Store.{Lent, held}
 use Rattle.bsmp.specs.declared.Variable.{Variable}
 use Rattle.bsmp.specs.declared.Curve.{Curve}
 use Rattle.bsmp.specs.declared.Function.{Function}
 use Rattle.bsmp.proofs.Bools.{and-true, all-at}
+use Rattle.bsmp.proofs.Lists.{every-at}
 use Rattle.bsmp.proofs.Store.{store-length, lengths-cut}
 use Rattle.bsmp.proofs.Usable.{usable-parts, usable-whole}
 use Rattle.records.specs.Checks.{curveBytes}
@@ -48,11 +48,6 @@ sound-usable t x s = usable-whole t (held (layout t) x) (record {
   functions = s .functions;
   groups = s .groups;
 })
-
-every-at : {A : Type 0} (f : A → Bool) (xs : List A) (i : ℕ) (d : A) → every f xs ≡ true → i < length xs → f (getD xs i d) ≡ true
-every-at f [] i d u h = absurd (omega (arith, h))
-every-at f (x ∷ xs) zero d u h = and-true (f x) (every f xs) u .0
-every-at f (x ∷ xs) (suc i) d u h = every-at f xs i d (and-true (f x) (every f xs) u .1) (omega (arith, h))
 
 module _ (vs : List Variable) (u : usableVariables vs ≡ true) where
   pub variables-most : length vs ≤ 64

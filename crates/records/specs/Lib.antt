@@ -1,2 +1,3 @@
 pub mod Lending
 pub mod Checks
+pub mod Pieces

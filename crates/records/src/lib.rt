@@ -3,18 +3,18 @@ use bsmp::Curve;
 use bsmp::CurveNumber;
 use bsmp::Function;
 use bsmp::FunctionNumber;
-use bsmp::Kind;
 use bsmp::Variable;
 ghost use mathlib.Core.Path.{_≡_};
 ghost use mathlib.Core.Bool.{true, _&&_};
 ghost use mathlib.Core.List.{[], _∷_, _++_};
 ghost use Prim.Native.Nat.{_+_, _^_, _≤_, _<_};
-ghost use lib.Dec.{eqb, leb, ltb};
+ghost use lib.Dec.{eqb, ltb};
 ghost use lib.ListN.{length, take, getD, set};
 ghost use Rattle.bsmp.specs.Base.{some};
 ghost use Rattle.bsmp.specs.Codes.{kindOf};
 ghost use Rattle.bsmp.specs.Board.{blankCurve, blankFunction, fitsKind, usableVariable, usableCurve, usableCurves, usableFunctions, usableGroups};
 ghost use Rattle.records.specs.Lending.{recordsBy, recordsOf, curvesOf, functionsOf, groupsOf, tableOf, lent};
+ghost use Rattle.records.specs.Pieces.{Window, Seen, Piece, Passes, Typed, Weighed, Marked};
 ghost use Rattle.records.specs.Checks.{checkedOf, curveBytes, curvesCheckedOf, boardOf};
 
 // The variable records by columns; of the places from `count` on, nothing counts.
@@ -73,45 +73,104 @@ impl Board {
     };
 }
 
+// The rules of a record are tested without branches, so that the compiler tests many at once.
 fn fits_number(size: u8) -> bool
     ensures { λ r. ⌜ r ≡ some (eqb size) (1 ∷ 2 ∷ 4 ∷ 8 ∷ []) ⌝ }
 {
-    match size {
-        1 => true,
-        2 => true,
-        4 => true,
-        8 => true,
-        _ => false,
-    }
+    (size == 1) | (size == 2) | (size == 4) | (size == 8)
 }
 
 fn fits_kind(size: u8, kind: u8) -> bool
     ensures { λ r. ⌜ r ≡ fitsKind size (kindOf kind) ⌝ }
 {
-    let k = Kind::of(kind);
-    match k {
-        Kind::Plain => true,
-        Kind::Number { signed: _, big: _ } => fits_number(size),
-        Kind::Unknown => false,
-    }
+    (kind == 0) | ((kind <= 4) & fits_number(size))
 }
 
 fn usable_variable(v: Variable) -> bool
     ensures { λ r. ⌜ r ≡ usableVariable v ⌝ }
 {
-    if 1 < v.writable {
-        return false;
-    }
-    if v.size < 1 {
-        return false;
-    }
-    if 127 < v.size {
-        return false;
-    }
-    fits_kind(v.size, v.kind)
+    (v.writable <= 1) & (1 <= v.size) & (v.size <= 127) & fits_kind(v.size, v.kind)
 }
 
-// The rules of the variable records, with what their sizes and types add up to, in one walk. The columns are lent, since a copy of them
+// What tells the places of records from those past the last: 64 that are open, and 16 that are shut.
+fn window() -> [u8; 80]
+    ensures { λ r. ⌜ Window r ⌝ }
+{
+    let mut places = [255u8; 80];
+    let mut k: usize = 64;
+    while k < 80 {
+        places[k] = 0;
+        k += 1;
+    }
+    places
+}
+
+// A byte as it is seen through a place of the window.
+fn seen(byte: u8, place: u8) -> u16
+    ensures { λ r. ⌜ Seen byte place r ⌝ }
+{
+    (byte & place) as u16
+}
+
+// Whether the records of 16 places break no rule; a place past the last record passes.
+fn usable_piece(
+    count: usize,
+    writable: &[u8; 64],
+    sizes: &[u8; 64],
+    kinds: &[u8; 64],
+    window: &[u8; 80],
+    from: usize,
+) -> bool
+    requires { ⌜ Piece count from (now window) ⌝ }
+    ensures { λ r. ⌜ Passes (recordsOf (recordsBy count (now (writable .entry)) (now (sizes .entry)) (now (kinds .entry)))) from r ⌝ }
+{
+    let first = 64 - count + from;
+    let mut usable = true;
+    let mut i: usize = 0;
+    while i < 16 {
+        let at = from + i;
+        let v = Variable {
+            writable: writable[at],
+            size: sizes[at],
+            kind: kinds[at],
+        };
+        usable = usable & (usable_variable(v) | (window[first + i] == 0));
+        i += 1;
+    }
+    usable
+}
+
+// The bytes of all records up to the end of 16 places, from those before them.
+fn add_bytes(count: usize, sizes: &[u8; 64], window: &[u8; 80], from: usize, before: usize) -> usize
+    requires { ⌜ Piece count from (now window) × Weighed count (now sizes) from before ⌝ }
+    ensures { λ r. ⌜ Weighed count (now (sizes .entry)) (from + 16) r ⌝ }
+{
+    let first = 64 - count + from;
+    let mut bytes: u16 = 0;
+    let mut i: usize = 0;
+    while i < 16 {
+        bytes += seen(sizes[from + i], window[first + i]);
+        i += 1;
+    }
+    before + bytes as usize
+}
+
+// The marks of all records up to the end of 16 places, from those before them.
+fn add_marks(count: usize, writable: &[u8; 64], window: &[u8; 80], from: usize, before: u64) -> u64
+    requires { ⌜ (Piece count from (now window) × Typed count from (now writable)) × Marked count (now writable) from before ⌝ }
+    ensures { λ r. ⌜ Marked count (now (writable .entry)) (from + 16) r ⌝ }
+{
+    let first = 64 - count + from;
+    let mut marks: u16 = 0;
+    let mut i: usize = 0;
+    while i < 16 {
+        marks += seen(writable[from + i], window[first + i]) << i;
+        i += 1;
+    }
+    before + ((marks as u64) << from)
+}
+
+// The rules of the variable records, 16 at a time, with what their sizes and types add up to. The columns are lent, since a copy of them
 // for each call would be the most of what an entry needs of the stack.
 pub fn usable_records(
     count: usize,
@@ -127,21 +186,17 @@ pub fn usable_records(
     if 64 < count {
         return Checked::REFUSED;
     }
+    let window = window();
     let mut bytes: usize = 0;
     let mut marks: u64 = 0;
-    let mut i = 0;
-    while i < count {
-        let v = Variable {
-            writable: writable[i],
-            size: sizes[i],
-            kind: kinds[i],
-        };
-        if !usable_variable(v) {
+    let mut from: usize = 0;
+    while from < count {
+        if !usable_piece(count, writable, sizes, kinds, &window, from) {
             return Checked::REFUSED;
         }
-        bytes += v.size as usize;
-        marks += (v.writable as u64) << i;
-        i += 1;
+        bytes = add_bytes(count, sizes, &window, from, bytes);
+        marks = add_marks(count, writable, &window, from, marks);
+        from += 16;
     }
     if 4096 < bytes {
         return Checked::REFUSED;
@@ -199,23 +254,31 @@ fn usable_curve(c: Curve) -> bool
     c.blocks <= 65536
 }
 
-// The rules of the curve records, with what their blocks add up to; each is tested before it counts, so that the sum fits.
+// The rules of the curve records, with what their blocks add up to; each is tested before it counts, so that the sum fits. A record that
+// is cut off breaks them.
 pub fn usable_curves(curves: &[u32]) -> CurvesChecked
     ensures { λ r. ⌜ r ≡ curvesCheckedOf (curvesOf (now (curves .entry))) ⌝ }
 {
-    let n = curve_count(curves);
-    if 8 < n {
+    let n = curves.len();
+    if 24 < n {
+        return CurvesChecked::REFUSED;
+    }
+    if n % 3 != 0 {
         return CurvesChecked::REFUSED;
     }
     let mut total: usize = 0;
     let mut i = 0;
     while i < n {
-        let c = curve_at(curves, CurveNumber(i));
+        let c = Curve {
+            writable: curves[i],
+            size: curves[i + 1],
+            blocks: curves[i + 2],
+        };
         if !usable_curve(c) {
             return CurvesChecked::REFUSED;
         }
         total += c.size as usize * c.blocks as usize;
-        i += 1;
+        i += 3;
     }
     if 65536 < total {
         return CurvesChecked::REFUSED;
@@ -269,32 +332,24 @@ pub fn function_at(functions: &[u8], f: FunctionNumber) -> Function
     }
 }
 
-fn usable_function(f: Function) -> bool
-    ensures { λ r. ⌜ r ≡ (leb (f .input) 15 && leb (f .output) 15) ⌝ }
-{
-    if 15 < f.input {
-        return false;
-    }
-    f.output <= 15
-}
-
-// The rules of the function records.
+// The rules of the function records, of all bytes at once: no bit of theirs is above the four of 15. A record that is cut off breaks them.
 pub fn usable_functions(functions: &[u8]) -> bool
     ensures { λ r. ⌜ r ≡ usableFunctions (functionsOf (now (functions .entry))) ⌝ }
 {
-    let n = function_count(functions);
-    if 16 < n {
+    let n = functions.len();
+    if 32 < n {
         return false;
     }
+    if n % 2 == 1 {
+        return false;
+    }
+    let mut bits: u8 = 0;
     let mut i = 0;
     while i < n {
-        let f = function_at(functions, FunctionNumber(i));
-        if !usable_function(f) {
-            return false;
-        }
+        bits = bits | functions[i];
         i += 1;
     }
-    true
+    bits <= 15
 }
 
 // Whether a set has members, and only declared ones: none is left past the last variable. With 64 variables, which is too far
