@@ -26,13 +26,13 @@ pub fn offset(sizes: &[u8], n: usize) -> usize
     requires { ⌜ (n ≤ length (now sizes)) × (length (now sizes) ≤ 64) ⌝ }
     ensures { λ r. ⌜ r ≡ sum (take n (now (sizes .entry))) ⌝ }
 {
-    let mut sum: usize = 0;
+    let mut sum: u16 = 0;
     let mut i = 0;
     while i < n {
-        sum += sizes[i] as usize;
+        sum += sizes[i] as u16;
         i += 1;
     }
-    sum
+    sum as usize
 }
 
 // Copies all of src to the front of dst.
