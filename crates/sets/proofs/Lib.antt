@@ -2,6 +2,7 @@ pub mod Marks
 pub mod Ids
 pub mod Members
 pub mod AtOnce
+pub mod First
+pub mod Whole
 pub mod Walk
 pub mod Group
-pub mod Whole

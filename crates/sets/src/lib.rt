@@ -5,15 +5,15 @@ use bsmp::VariableNumber;
 ghost use mathlib.Core.Path.{_≡_};
 ghost use mathlib.Core.Bool.{true, false, cond};
 ghost use mathlib.Core.List.{[], _∷_, map};
-ghost use Prim.Native.Nat.{_+_, _%_, _^_, _≤_, _<_};
+ghost use Prim.Native.Nat.{_+_, _-_, _%_, _^_, _≤_, _<_};
 ghost use lib.Dec.{eqb};
 ghost use lib.ListN.{length, drop};
-ghost use Rattle.bsmp.specs.Base.{cut, every, some};
+ghost use Rattle.bsmp.specs.Base.{cut, every, some, upFrom};
 ghost use Rattle.bsmp.specs.Board.{marked};
 ghost use Rattle.bsmp.specs.Message.{changed, edited, valuesOf};
-ghost use Rattle.lists.specs.Put.{part};
+ghost use Rattle.lists.specs.Put.{put, part};
 ghost use Rattle.sets.specs.Members.{membersOf, membersBelow, sizeAt, setBytes};
-ghost use Rattle.sets.specs.Promises.{Sound, Below, Named, GroupSet, BytesAt, Turned};
+ghost use Rattle.sets.specs.Promises.{Sound, Below, Named, GroupSet, BytesAt, Turned, Lowest};
 
 // Whether variable i is marked.
 pub fn is_marked(marks: u64, i: VariableNumber) -> bool
@@ -88,15 +88,20 @@ pub fn group_writable(g: GroupNumber, set: u64, writable: u64) -> bool
     all_marked(set, writable)
 }
 
-// The n bytes of variable i, if it's a member.
-fn bytes_turn(set: u64, i: VariableNumber, n: u8) -> usize
-    requires { ⌜ i .0 < 64 ⌝ }
-    ensures { λ r. ⌜ (r ≡ cond (marked set i) n 0) × (r ≤ 255) ⌝ }
+// The lowest member.
+fn lowest(set: u64) -> usize
+    requires { ⌜ 0 < set ⌝ }
+    ensures { λ r. ⌜ Lowest set r ⌝ }
 {
-    if is_marked(set, i) {
-        return n as usize;
-    }
-    0
+    u64::trailing_zeros(set) as usize
+}
+
+// The other members.
+fn without_lowest(set: u64, i: usize) -> u64
+    requires { ⌜ Lowest set i ⌝ }
+    ensures { λ r. ⌜ r ≡ set - 2 ^ i ⌝ }
+{
+    set - (1 << i)
 }
 
 // The bytes of all members.
@@ -109,10 +114,11 @@ pub fn set_bytes(sizes: &[u8], set: u64) -> usize
         return lists::offset(sizes, sizes.len());
     }
     let mut bytes: usize = 0;
-    let mut i = 0;
-    while i < sizes.len() {
-        bytes += bytes_turn(set, VariableNumber(i), sizes[i]);
-        i += 1;
+    let mut rest = declared(set, sizes.len());
+    while rest != 0 {
+        let i = lowest(rest);
+        bytes += sizes[i] as usize;
+        rest = without_lowest(rest, i);
     }
     bytes
 }
@@ -215,16 +221,16 @@ pub fn change_members(
     }
 }
 
-// The number of variable i into the reply, if it's a member; answers the next place there.
-fn list_turn(set: u64, i: VariableNumber, reply: &mut [u8], to: usize) -> usize
-    requires { ⌜ (i .0 < 64) × (to < length (now reply)) ⌝ }
-    ensures { λ r. ⌜ Turned (marked set i) 1 (i .0 ∷ []) (now (reply .entry)) to to r (now (reply .exit)) ⌝ }
+// The numbers of the first variables, a byte each, into the reply from `at` on.
+fn list_all(count: usize, reply: &mut [u8], at: usize)
+    requires { ⌜ (count ≤ 64) × (at + 64 ≤ length (now reply)) ⌝ }
+    ensures { λ _. ⌜ now (reply .exit) ≡ put (now (reply .entry)) at (upFrom 0 count) ⌝ }
 {
-    if is_marked(set, i) {
-        reply[to] = i.0 as u8;
-        return to + 1;
+    let mut i = 0;
+    while i < count {
+        reply[at + i] = i as u8;
+        i += 1;
     }
-    to
 }
 
 // The members' numbers, ascending, a byte each, into the reply from `at` on; answers how many they are.
@@ -232,11 +238,17 @@ pub fn list_members(count: usize, set: u64, reply: &mut [u8], at: usize) -> usiz
     requires { ⌜ (count ≤ 64) × (at + 64 ≤ length (now reply)) ⌝ }
     ensures { λ r. ⌜ BytesAt (map (λ i. i .0) (membersBelow set count)) 64 (now (reply .entry)) at r (now (reply .exit)) ⌝ }
 {
+    if set == !0 {
+        list_all(count, reply, at);
+        return count;
+    }
     let mut to = at;
-    let mut i = 0;
-    while i < count {
-        to = list_turn(set, VariableNumber(i), reply, to);
-        i += 1;
+    let mut rest = declared(set, count);
+    while rest != 0 {
+        let i = lowest(rest);
+        reply[to] = i as u8;
+        to += 1;
+        rest = without_lowest(rest, i);
     }
     to - at
 }
