@@ -17,6 +17,7 @@ use Rattle.bsmp.specs.Board.{variable, marked}
 use Rattle.bsmp.specs.declared.VariableNumber.{VariableNumber}
 use Rattle.bsmp.proofs.Bools.{bool-eq}
 use Rattle.sets.specs.Members.{membersBelow}
+use Rattle.sets.proofs.Members.{only-none}
 use Rattle.sets.proofs.Marks.{has-half, has-low, has-none, bit-same}
 
 -- the first n marks, as the code has them: all, or those below a mark of its own
@@ -47,15 +48,11 @@ has-mod m (suc n) zero h = bit-same (has (m % 2 ^ suc n) 0) (has m 0) (has-low (
 has-mod m (suc n) (suc k) h =
     has-half (m % 2 ^ suc n) k ∙ ap (λ (x : ℕ). has x k) (mod-half m n) ∙ has-mod (m / 2) n k (omega (arith, h)) ∙ sym (has-half m k)
 
-has-past : (m n k : ℕ) → m < 2 ^ n → n ≤ k → has m k ≡ false
+pub has-past : (m n k : ℕ) → m < 2 ^ n → n ≤ k → has m k ≡ false
 unfolding has
 has-past m n k h l =
     let e : m / 2 ^ k ≡ 0 = div-eq-of-lt (lt-of-lt-of-le h (pow-mono l)) in
     rw e
-
-only-none : (f : VariableNumber → Bool) (i n : ℕ) → ((k : ℕ) → i ≤ k → f (variable k) ≡ false) → only f (map variable (upFrom i n)) ≡ []
-only-none f i zero e = refl
-only-none f i (suc n) e = rw (e i (omega arith)) (only-none f (suc i) n (λ k h. e k (omega (arith, h))))
 
 -- a test that fails after the first n variables chooses of these alone
 only-first : (f h : VariableNumber → Bool) (i n k : ℕ) → n ≤ k → ((j : ℕ) → j < i + n → f (variable j) ≡ h (variable j))

@@ -5,4 +5,5 @@ pub mod AtOnce
 pub mod First
 pub mod Whole
 pub mod Walk
+pub mod Runs
 pub mod Group

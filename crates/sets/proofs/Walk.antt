@@ -16,25 +16,13 @@ use Rattle.bsmp.specs.declared.VariableNumber.{VariableNumber}
 use Rattle.bsmp.proofs.Lists.{length-upFrom, only-length}
 use Rattle.lists.specs.Put.{put, part}
 use Rattle.lists.proofs.Put.{put-nil, put-put, set-put, length-put, length-part}
-use Rattle.lists.proofs.Sum.{total-within, total-take, total-drop}
+use Rattle.lists.proofs.Sum.{total-within, total-take, total-drop, total-split}
 use Rattle.lists.proofs.Pieces.{value-part, cut-change}
 use Rattle.sets.specs.Members.{membersBelow, membersOf, sizeAt, setBytes}
 use Rattle.sets.specs.Promises.{Sound, BytesAt, Turned, Lowest}
-use Rattle.sets.proofs.Members.{membersFrom, from-next, from-end, from-all}
+use Rattle.sets.proofs.Members.{membersFrom, from-next}
 use Rattle.sets.proofs.AtOnce.{below-declared, below-none}
 use Rattle.sets.proofs.Whole.{set-small}
-
--- what a turn leaves, as its two branches have it; h is the code's answer to whether the variable is a member
-module _ (h b : Bool) (k : ℕ) (v list : List ℕ) (place from next : ℕ) (list′ : List ℕ) where
-  pub turned-yes : h ≡ b → h ≡ true → next ≡ from + k → list′ ≡ put list place v → Turned b k v list place from next list′
-  turned-yes e t n w = record { passed = rw (← e, t) n; bytes = rw (← e, t) w }
-
-  pub turned-no : h ≡ b → h ≡ false → next ≡ from → list′ ≡ list → Turned b k v list place from next list′
-  turned-no e f n w = record { passed = rw (← e, f, add-zero) n; bytes = rw (← e, f) w }
-
--- the part of the payload is there if it is taken
-pub room-yes : (h b : Bool) (t n l : ℕ) → h ≡ b → h ≡ true → t + cond b n 0 ≤ l → t + n ≤ l
-room-yes h b t n l e k r = rw (← e, k) at r
 
 -- bytes of each member laid one after another, from a place on; so many may still come
 module _ (f : VariableNumber → List ℕ) (all : List VariableNumber) (most : ℕ) (r₀ : List ℕ) (at : ℕ) where
@@ -101,8 +89,8 @@ module _ (ns s : List ℕ) (m : ℕ) (r₀ : List ℕ) (at : ℕ) where
   abbrev pub Reading : ℕ → List ℕ → ℕ → Type 0
   Reading i r to = Laying (λ j. getD (cut ns s) (j .0) []) (membersBelow m (length ns)) 4096 r₀ at (membersFrom m (length ns) i) (sum (drop i ns)) r to
 
-  pub read-start : Sound ns s → Reading 0 r₀ at
-  read-start z = rw (from-all m (length ns)) (lay-start _ _ 4096 r₀ at (sum ns) (omega (arith, z .exact, z .small)))
+  pub read-start : (i : ℕ) → Sound ns s → membersBelow m (length ns) ≡ membersFrom m (length ns) i → Reading i r₀ at
+  read-start i z e = rw (← e) (lay-start _ _ 4096 r₀ at (sum (drop i ns)) (omega (arith, z .exact, z .small, total-split ns i)))
 
   pub read-next : (i off : ℕ) (r : List ℕ) (to : ℕ) (r′ : List ℕ) (to′ : ℕ) → i < length ns → Sound ns s → off ≡ sum (take i ns) → at + 4096 ≤ length r₀
       → Turned (marked m (variable i)) (getD ns i 0) (part s off (getD ns i 0)) r to to to′ r′ → Reading i r to → Reading (i + 1) r′ to′
@@ -113,9 +101,9 @@ module _ (ns s : List ℕ) (m : ℕ) (r₀ : List ℕ) (at : ℕ) where
   pub read-room : (i : ℕ) (r : List ℕ) (to : ℕ) → i < length ns → at + 4096 ≤ length r₀ → Reading i r to → to + getD ns i 0 ≤ length r
   read-room i r to h o q = omega (arith, total-drop ns i h, q .room, q .kept)
 
-  pub read-end : (i : ℕ) (r : List ℕ) (to : ℕ) → length ns ≤ i → Reading i r to → BytesAt (valuesOf (cut ns s) (membersOf m ns)) 4096 r₀ at (to - at) r
+  pub read-end : (i : ℕ) (r : List ℕ) (to : ℕ) → membersFrom m (length ns) i ≡ [] → Reading i r to → BytesAt (valuesOf (cut ns s) (membersOf m ns)) 4096 r₀ at (to - at) r
   unfolding valuesOf
-  read-end i r to h q = lay-end _ _ 4096 r₀ at (sum (drop i ns)) r to (rw (from-end m (length ns) i h) at q)
+  read-end i r to e q = lay-end _ _ 4096 r₀ at (sum (drop i ns)) r to (rw e at q)
 
 -- the members' numbers: a walk that takes the lowest member off
 below-few : (m n : ℕ) → length (membersBelow m n) ≤ n
@@ -188,9 +176,9 @@ module _ (op : Operation) (ns p : List ℕ) (m front : ℕ) (s₀ : List ℕ) wh
   abbrev pub Editing : ℕ → List ℕ → ℕ → Type 0
   Editing i s f = Changing op ns p (membersOf m ns) front s₀ (membersFrom m (length ns) i) s f
 
-  pub edit-start : Sound ns s₀ → front + setBytes m ns ≤ length p → Editing 0 s₀ front
+  pub edit-start : (i : ℕ) → Sound ns s₀ → front + setBytes m ns ≤ length p → membersBelow m (length ns) ≡ membersFrom m (length ns) i → Editing i s₀ front
   unfolding setBytes
-  edit-start z h = rw (from-all m (length ns)) (record { sound = z; left = h; done = refl })
+  edit-start i z h e = rw (← e) (record { sound = z; left = h; done = refl })
 
   pub edit-next : (i off : ℕ) (s : List ℕ) (f : ℕ) (s′ : List ℕ) (f′ : ℕ) → i < length ns → off ≡ sum (take i ns) → length s′ ≡ length s
       → Turned (marked m (variable i)) (getD ns i 0) (changed op (part s off (getD ns i 0)) (part p f (getD ns i 0))) s off f f′ s′
@@ -209,10 +197,10 @@ module _ (op : Operation) (ns p : List ℕ) (m front : ℕ) (s₀ : List ℕ) wh
       by true l = omega (arith, l)
       by false l = omega (arith, l)
 
-  pub edit-end : (i : ℕ) (s : List ℕ) (f : ℕ) → length ns ≤ i → Editing i s f
+  pub edit-end : (i : ℕ) (s : List ℕ) (f : ℕ) → membersFrom m (length ns) i ≡ [] → Editing i s f
       → cut ns s ≡ edited op (membersOf m ns) (cut (map (sizeAt ns) (membersOf m ns)) (drop front p)) (cut ns s₀)
-  edit-end i s f h q =
-      let w : Changing op ns p (membersOf m ns) front s₀ [] s f = rw (from-end m (length ns) i h) at q in
+  edit-end i s f e q =
+      let w : Changing op ns p (membersOf m ns) front s₀ [] s f = rw e at q in
       w .done
 
 -- the bytes of the members, and of those that are left: a walk that takes the lowest member off
