@@ -111,7 +111,7 @@ pub fn change(curves: &[u32], blocks: &mut [u8], payload: &[u8])
         ⌜ blocksIn curves (now (blocks .exit)) ≡ set (blocksIn curves (now (blocks .entry))) (placeOf curves payload) (filled (drop 3 payload) block) ⌝ }
 {
     let at = Block::of(curves, payload).at;
-    lists::copy_into(&mut blocks[at..], &payload[3..]);
+    lists::copy_block(&mut blocks[at..], &payload[3..]);
 }
 
 // 41 as an answer: curve and block number as they came, and the block's bytes.
@@ -125,7 +125,7 @@ pub fn tell(curves: &[u32], blocks: &[u8], payload: &[u8], reply: &mut [u8], at:
 {
     let block = Block::of(curves, payload);
     lists::read_value(payload, 0, 3, reply, at);
-    lists::read_value(blocks, block.at, block.size, reply, at + 3);
+    lists::read_block(blocks, block.at, block.size, reply, at + 3);
     3 + block.size
 }
 

@@ -17,7 +17,8 @@ use Rattle.bsmp.specs.Board.{variable, marked}
 use Rattle.bsmp.specs.declared.VariableNumber.{VariableNumber}
 use Rattle.bsmp.proofs.Bools.{bool-eq}
 use Rattle.sets.specs.Members.{membersBelow}
-use Rattle.sets.proofs.Marks.{has-half, has-low, bit-same}
+use Rattle.sets.proofs.Members.{only-none}
+use Rattle.sets.proofs.Marks.{has-half, has-low, has-none, bit-same}
 
 -- the first n marks, as the code has them: all, or those below a mark of its own
 module _ (m n : ℕ) where
@@ -47,15 +48,11 @@ has-mod m (suc n) zero h = bit-same (has (m % 2 ^ suc n) 0) (has m 0) (has-low (
 has-mod m (suc n) (suc k) h =
     has-half (m % 2 ^ suc n) k ∙ ap (λ (x : ℕ). has x k) (mod-half m n) ∙ has-mod (m / 2) n k (omega (arith, h)) ∙ sym (has-half m k)
 
-has-past : (m n k : ℕ) → m < 2 ^ n → n ≤ k → has m k ≡ false
+pub has-past : (m n k : ℕ) → m < 2 ^ n → n ≤ k → has m k ≡ false
 unfolding has
 has-past m n k h l =
     let e : m / 2 ^ k ≡ 0 = div-eq-of-lt (lt-of-lt-of-le h (pow-mono l)) in
     rw e
-
-only-none : (f : VariableNumber → Bool) (i n : ℕ) → ((k : ℕ) → i ≤ k → f (variable k) ≡ false) → only f (map variable (upFrom i n)) ≡ []
-only-none f i zero e = refl
-only-none f i (suc n) e = rw (e i (omega arith)) (only-none f (suc i) n (λ k h. e k (omega (arith, h))))
 
 -- a test that fails after the first n variables chooses of these alone
 only-first : (f h : VariableNumber → Bool) (i n k : ℕ) → n ≤ k → ((j : ℕ) → j < i + n → f (variable j) ≡ h (variable j))
@@ -72,8 +69,13 @@ below-declared m n k l =
     only-first (marked (m % 2 ^ n)) (marked m) 0 n k l (λ j h. has-mod m n j (omega (arith, h)))
     (λ j h. has-past (m % 2 ^ n) n j (mod-lt m (pow-pos n)) (omega (arith, h)))
 
+-- a set without marks has no members
+pub below-none : (n : ℕ) → membersBelow 0 n ≡ []
+unfolding membersBelow
+below-none n = only-none (marked 0) 0 n (λ k h. has-none k)
+
 -- the members after the first are those of the half, one number higher
-abbrev next : VariableNumber → VariableNumber
+abbrev pub next : VariableNumber → VariableNumber
 next i = variable (suc (i .0))
 
 only-half : (m i n : ℕ) → only (marked m) (map variable (upFrom (suc i) n)) ≡ map next (only (marked (m / 2)) (map variable (upFrom i n)))
@@ -84,7 +86,7 @@ only-half m i (suc n) = rw (has-half m i, only-half m (suc i) n) (by (has (m / 2
     by true x = refl
     by false x = refl
 
-below-half : (m n : ℕ) → membersBelow m (suc n) ≡ cond (has m 0) (variable 0 ∷ map next (membersBelow (m / 2) n)) (map next (membersBelow (m / 2) n))
+pub below-half : (m n : ℕ) → membersBelow m (suc n) ≡ cond (has m 0) (variable 0 ∷ map next (membersBelow (m / 2) n)) (map next (membersBelow (m / 2) n))
 unfolding membersBelow
 below-half m n = ap (λ (x : List VariableNumber). cond (has m 0) (variable 0 ∷ x) x) (only-half m 0 n)
 

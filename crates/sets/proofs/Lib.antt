@@ -2,6 +2,8 @@ pub mod Marks
 pub mod Ids
 pub mod Members
 pub mod AtOnce
-pub mod Walk
-pub mod Group
+pub mod First
 pub mod Whole
+pub mod Walk
+pub mod Runs
+pub mod Group

@@ -1,36 +1,28 @@
 -- Turns of the walks over a set: from each on, what is left to do gives the whole. Assumes nothing.
-use mathlib.Core.Path.{_≡_, refl, sym, ap, ap₂, _∙_}
+use mathlib.Core.Path.{_≡_, refl, sym, ap, ap₂, _∙_, subst}
 use mathlib.Core.Bool.{Bool, true, false, cond}
 use mathlib.Core.List.{List, [], _∷_, map}
-use Prim.Native.Nat.{ℕ, _+_, _-_, _*_, _^_, _≤_, _<_}
+use Prim.Native.Nat.{ℕ, _+_, _-_, _%_, _^_, _≤_, _<_}
 use native.Mathlib.Omega.{arith}
-use native.Mathlib.Nat.{add-zero}
-use lib.ListN.{length, take, drop, getD, length-append}
+use native.Mathlib.Nat.{add-zero, mod-lt}
+use lib.Pow.{pow-pos}
+use lib.ListN.{length, take, drop, getD, set, length-append, length-map}
 use lib.Seq.{drop-drop}
-use Rattle.bsmp.specs.Base.{sum, cut, join}
+use Rattle.bsmp.specs.Base.{sum, cut, join, upFrom}
 use Rattle.bsmp.specs.Board.{variable, marked}
 use Rattle.bsmp.specs.Message.{changed, edited, valuesOf}
 use Rattle.bsmp.specs.declared.Operation.{Operation}
 use Rattle.bsmp.specs.declared.VariableNumber.{VariableNumber}
+use Rattle.bsmp.proofs.Lists.{length-upFrom, only-length}
 use Rattle.lists.specs.Put.{put, part}
-use Rattle.lists.proofs.Put.{put-nil, put-put, length-put, length-part}
-use Rattle.lists.proofs.Sum.{total-within, total-take, total-drop}
+use Rattle.lists.proofs.Put.{put-nil, put-put, set-put, length-put, length-part}
+use Rattle.lists.proofs.Sum.{total-within, total-take, total-drop, total-split}
 use Rattle.lists.proofs.Pieces.{value-part, cut-change}
 use Rattle.sets.specs.Members.{membersBelow, membersOf, sizeAt, setBytes}
-use Rattle.sets.specs.Promises.{Sound, BytesAt, Turned}
-use Rattle.sets.proofs.Members.{membersFrom, from-next, from-end, from-all}
-
--- what a turn leaves, as its two branches have it; h is the code's answer to whether the variable is a member
-module _ (h b : Bool) (k : ℕ) (v list : List ℕ) (place from next : ℕ) (list′ : List ℕ) where
-  pub turned-yes : h ≡ b → h ≡ true → next ≡ from + k → list′ ≡ put list place v → Turned b k v list place from next list′
-  turned-yes e t n w = record { passed = rw (← e, t) n; bytes = rw (← e, t) w }
-
-  pub turned-no : h ≡ b → h ≡ false → next ≡ from → list′ ≡ list → Turned b k v list place from next list′
-  turned-no e f n w = record { passed = rw (← e, f, add-zero) n; bytes = rw (← e, f) w }
-
--- the part of the payload is there if it is taken
-pub room-yes : (h b : Bool) (t n l : ℕ) → h ≡ b → h ≡ true → t + cond b n 0 ≤ l → t + n ≤ l
-room-yes h b t n l e k r = rw (← e, k) at r
+use Rattle.sets.specs.Promises.{Sound, BytesAt, Turned, Lowest}
+use Rattle.sets.proofs.Members.{membersFrom, from-next}
+use Rattle.sets.proofs.AtOnce.{below-declared, below-none}
+use Rattle.sets.proofs.Whole.{set-small}
 
 -- bytes of each member laid one after another, from a place on; so many may still come
 module _ (f : VariableNumber → List ℕ) (all : List VariableNumber) (most : ℕ) (r₀ : List ℕ) (at : ℕ) where
@@ -65,22 +57,19 @@ module _ (f : VariableNumber → List ℕ) (all : List VariableNumber) (most : �
     done = ap₂ (λ (x : List ℕ) (y : ℕ). put x y (bytes rest)) (t .bytes) (t .passed ∙ add-zero to) ∙ q .done;
   }
 
-module _ (f : VariableNumber → List ℕ) (m n most : ℕ) (r₀ : List ℕ) (at : ℕ) where
-  lay-start : (left : ℕ) → left ≤ most → Laying f (membersBelow m n) most r₀ at (membersFrom m n 0) left r₀ at
-  lay-start left h = rw (from-all m n) (record { kept = refl; begun = omega arith; room = omega arith; next = refl; done = refl })
+  lay-start : (left : ℕ) → left ≤ most → Laying all left r₀ at
+  lay-start left h = record { kept = refl; begun = omega arith; room = omega arith; next = refl; done = refl }
 
+  lay-end : (left : ℕ) (r : List ℕ) (to : ℕ) → Laying [] left r to → BytesAt (bytes all) most r₀ at (to - at) r
+  lay-end left r to q = record { count = omega (arith, q .next, q .begun); room = omega (arith, q .room); bytes = sym (put-nil r to) ∙ q .done }
+
+module _ (f : VariableNumber → List ℕ) (m n most : ℕ) (r₀ : List ℕ) (at : ℕ) where
   lay-next : (i k left left′ : ℕ) (v r : List ℕ) (to : ℕ) (r′ : List ℕ) (to′ : ℕ)
       → i < n → f (variable i) ≡ v → length v ≡ k → k + left′ ≤ left → at + most ≤ length r₀ → Turned (marked m (variable i)) k v r to to to′ r′
       → Laying f (membersBelow m n) most r₀ at (membersFrom m n i) left r to → Laying f (membersBelow m n) most r₀ at (membersFrom m n (i + 1)) left′ r′ to′
   lay-next i k left left′ v r to r′ to′ h e l g o t q =
       lay-step f (membersBelow m n) most r₀ at (marked m (variable i)) (variable i) (membersFrom m n (i + 1)) k left left′ r to r′ to′
       (rw e l) g o (rw e t) (rw (from-next m n i h) at q)
-
-  lay-end : (i left : ℕ) (r : List ℕ) (to : ℕ) → n ≤ i → Laying f (membersBelow m n) most r₀ at (membersFrom m n i) left r to
-      → BytesAt (join (map f (membersBelow m n))) most r₀ at (to - at) r
-  lay-end i left r to h q =
-      let w : Laying f (membersBelow m n) most r₀ at [] left r to = rw (from-end m n i h) at q in
-      record { count = omega (arith, w .next, w .begun); room = omega (arith, w .room); bytes = sym (put-nil r to) ∙ w .done }
 
 -- the members' values; the place of each in the store
 pub place-next : (ns : List ℕ) (i off n : ℕ) → i < length ns → n ≡ getD ns i 0 → off ≡ sum (take i ns) → off + n ≡ sum (take (i + 1) ns)
@@ -100,8 +89,8 @@ module _ (ns s : List ℕ) (m : ℕ) (r₀ : List ℕ) (at : ℕ) where
   abbrev pub Reading : ℕ → List ℕ → ℕ → Type 0
   Reading i r to = Laying (λ j. getD (cut ns s) (j .0) []) (membersBelow m (length ns)) 4096 r₀ at (membersFrom m (length ns) i) (sum (drop i ns)) r to
 
-  pub read-start : Sound ns s → Reading 0 r₀ at
-  read-start z = lay-start _ m (length ns) 4096 r₀ at (sum ns) (omega (arith, z .exact, z .small))
+  pub read-start : (i : ℕ) → Sound ns s → membersBelow m (length ns) ≡ membersFrom m (length ns) i → Reading i r₀ at
+  read-start i z e = rw (← e) (lay-start _ _ 4096 r₀ at (sum (drop i ns)) (omega (arith, z .exact, z .small, total-split ns i)))
 
   pub read-next : (i off : ℕ) (r : List ℕ) (to : ℕ) (r′ : List ℕ) (to′ : ℕ) → i < length ns → Sound ns s → off ≡ sum (take i ns) → at + 4096 ≤ length r₀
       → Turned (marked m (variable i)) (getD ns i 0) (part s off (getD ns i 0)) r to to to′ r′ → Reading i r to → Reading (i + 1) r′ to′
@@ -112,24 +101,44 @@ module _ (ns s : List ℕ) (m : ℕ) (r₀ : List ℕ) (at : ℕ) where
   pub read-room : (i : ℕ) (r : List ℕ) (to : ℕ) → i < length ns → at + 4096 ≤ length r₀ → Reading i r to → to + getD ns i 0 ≤ length r
   read-room i r to h o q = omega (arith, total-drop ns i h, q .room, q .kept)
 
-  pub read-end : (i : ℕ) (r : List ℕ) (to : ℕ) → length ns ≤ i → Reading i r to → BytesAt (valuesOf (cut ns s) (membersOf m ns)) 4096 r₀ at (to - at) r
+  pub read-end : (i : ℕ) (r : List ℕ) (to : ℕ) → membersFrom m (length ns) i ≡ [] → Reading i r to → BytesAt (valuesOf (cut ns s) (membersOf m ns)) 4096 r₀ at (to - at) r
   unfolding valuesOf
-  read-end i r to h q = lay-end _ m (length ns) 4096 r₀ at i (sum (drop i ns)) r to h q
+  read-end i r to e q = lay-end _ _ 4096 r₀ at (sum (drop i ns)) r to (rw e at q)
 
--- the members' numbers
+-- the members' numbers: a walk that takes the lowest member off
+below-few : (m n : ℕ) → length (membersBelow m n) ≤ n
+unfolding membersBelow
+below-few m n =
+    let l : length (map variable (upFrom 0 n)) ≡ n = length-map (upFrom 0 n) variable ∙ length-upFrom 0 n in
+    omega (arith, only-length (marked m) (map variable (upFrom 0 n)))
+
 module _ (m n : ℕ) (r₀ : List ℕ) (at : ℕ) where
-  abbrev pub Listing : ℕ → List ℕ → ℕ → Type 0
-  Listing i r to = Laying (λ j. j .0 ∷ []) (membersBelow m n) 64 r₀ at (membersFrom m n i) (n - i) r to
+  abbrev Numbered : List VariableNumber → List ℕ → ℕ → Type 0
+  Numbered rest r to = Laying (λ j. j .0 ∷ []) (membersBelow m n) 64 r₀ at rest (length rest) r to
 
-  pub list-start : n ≤ 64 → Listing 0 r₀ at
-  list-start h = lay-start _ m n 64 r₀ at (n - 0) (omega arith)
+  pub record Listing (rest : ℕ) (r : List ℕ) (to : ℕ) : Type 0 where
+    pub inside : rest < 2 ^ n
+    pub laid : Numbered (membersBelow rest n) r to
 
-  pub list-next : (i : ℕ) (r : List ℕ) (to : ℕ) (r′ : List ℕ) (to′ : ℕ) → i < n → at + 64 ≤ length r₀ → Turned (marked m (variable i)) 1 (i ∷ []) r to to to′ r′
-      → Listing i r to → Listing (i + 1) r′ to′
-  list-next i r to r′ to′ h o t q = lay-next _ m n 64 r₀ at i 1 (n - i) (n - (i + 1)) (i ∷ []) r to r′ to′ h refl refl (omega arith) o t q
+  pub list-start : (rest : ℕ) → rest ≡ m % 2 ^ n → n ≤ 64 → Listing rest r₀ at
+  list-start rest e h = rw e (record {
+    inside = mod-lt m (pow-pos n);
+    laid = rw (below-declared m n n (omega arith)) (lay-start _ _ 64 r₀ at (length (membersBelow m n)) (omega (arith, below-few m n)));
+  })
 
-  pub list-end : (i : ℕ) (r : List ℕ) (to : ℕ) → n ≤ i → Listing i r to → BytesAt (map (λ j. j .0) (membersBelow m n)) 64 r₀ at (to - at) r
-  list-end i r to h q = rw (← singles (membersBelow m n)) (lay-end _ m n 64 r₀ at i (n - i) r to h q)
+  module _ (rest i : ℕ) (r : List ℕ) (to : ℕ) (few : n ≤ 64) (room : at + 64 ≤ length r₀) (o : Lowest rest i) (q : Listing rest r to) where
+    pub list-room : to < length r
+    list-room = omega (arith, q .laid .room, q .laid .kept, ap length (o .first n few (q .inside)))
+
+    pub list-next : (rest′ : ℕ) → rest′ ≡ rest - 2 ^ i → Listing rest′ (set r to i) (to + 1)
+    list-next rest′ e = rw e (record {
+      inside = omega (arith, q .inside);
+      laid = lay-step _ _ 64 r₀ at true (variable i) (membersBelow (rest - 2 ^ i) n) 1 _ _ r to (set r to i) (to + 1)
+          refl (omega arith) room (record { passed = refl; bytes = set-put r to i list-room }) (subst (λ is. Numbered is r to) (o .first n few (q .inside)) (q .laid));
+    })
+
+  pub list-end : (rest : ℕ) (r : List ℕ) (to : ℕ) → rest ≡ 0 → Listing rest r to → BytesAt (map (λ j. j .0) (membersBelow m n)) 64 r₀ at (to - at) r
+  list-end rest r to e q = rw (← singles (membersBelow m n)) (lay-end _ _ 64 r₀ at _ r to (subst (λ is. Numbered is r to) (ap (λ k. membersBelow k n) e ∙ below-none n) (q .laid)))
     where
       singles : (is : List VariableNumber) → join (map (λ j. j .0 ∷ []) is) ≡ map (λ j. j .0) is
       singles [] = refl
@@ -167,9 +176,9 @@ module _ (op : Operation) (ns p : List ℕ) (m front : ℕ) (s₀ : List ℕ) wh
   abbrev pub Editing : ℕ → List ℕ → ℕ → Type 0
   Editing i s f = Changing op ns p (membersOf m ns) front s₀ (membersFrom m (length ns) i) s f
 
-  pub edit-start : Sound ns s₀ → front + setBytes m ns ≤ length p → Editing 0 s₀ front
+  pub edit-start : (i : ℕ) → Sound ns s₀ → front + setBytes m ns ≤ length p → membersBelow m (length ns) ≡ membersFrom m (length ns) i → Editing i s₀ front
   unfolding setBytes
-  edit-start z h = rw (from-all m (length ns)) (record { sound = z; left = h; done = refl })
+  edit-start i z h e = rw (← e) (record { sound = z; left = h; done = refl })
 
   pub edit-next : (i off : ℕ) (s : List ℕ) (f : ℕ) (s′ : List ℕ) (f′ : ℕ) → i < length ns → off ≡ sum (take i ns) → length s′ ≡ length s
       → Turned (marked m (variable i)) (getD ns i 0) (changed op (part s off (getD ns i 0)) (part p f (getD ns i 0))) s off f f′ s′
@@ -188,47 +197,41 @@ module _ (op : Operation) (ns p : List ℕ) (m front : ℕ) (s₀ : List ℕ) wh
       by true l = omega (arith, l)
       by false l = omega (arith, l)
 
-  pub edit-end : (i : ℕ) (s : List ℕ) (f : ℕ) → length ns ≤ i → Editing i s f
+  pub edit-end : (i : ℕ) (s : List ℕ) (f : ℕ) → membersFrom m (length ns) i ≡ [] → Editing i s f
       → cut ns s ≡ edited op (membersOf m ns) (cut (map (sizeAt ns) (membersOf m ns)) (drop front p)) (cut ns s₀)
-  edit-end i s f h q =
-      let w : Changing op ns p (membersOf m ns) front s₀ [] s f = rw (from-end m (length ns) i h) at q in
+  edit-end i s f e q =
+      let w : Changing op ns p (membersOf m ns) front s₀ [] s f = rw e at q in
       w .done
 
--- a variable's bytes, as the two branches have them
-module _ (h b : Bool) (n : ℕ) (e : h ≡ b) where
-  pub bytes-yes : h ≡ true → n ≡ cond b n 0
-  bytes-yes t = rw (← e, t)
-
-  pub bytes-no : h ≡ false → 0 ≡ cond b n 0
-  bytes-no f = rw (← e, f)
-
--- the bytes of the members, and of those that are left
+-- the bytes of the members, and of those that are left: a walk that takes the lowest member off
 module _ (ns : List ℕ) (m : ℕ) where
-  abbrev bytesOf : List VariableNumber → ℕ
-  bytesOf is = sum (map (sizeAt ns) is)
+  abbrev bytesOf : ℕ → ℕ
+  bytesOf rest = sum (map (sizeAt ns) (membersOf rest ns))
 
-  pub record Adding (i b : ℕ) : Type 0 where
-    pub left : b + bytesOf (membersFrom m (length ns) i) ≡ setBytes m ns
-    pub small : b ≤ 255 * i
+  pub record Adding (rest b : ℕ) : Type 0 where
+    pub bytes : (k : ℕ) → getD ns k 0 < 256
+    pub inside : rest < 2 ^ length ns
+    pub left : b + bytesOf rest ≡ setBytes m ns
 
-  pub add-start : Adding 0 0
+  pub add-start : (rest : ℕ) → ((k : ℕ) → getD ns k 0 < 256) → rest ≡ m % 2 ^ length ns → Adding rest 0
   unfolding setBytes
-  add-start = record { left = omega (arith, ap bytesOf (from-all m (length ns))); small = omega arith }
+  add-start rest h e = rw e (record { bytes = h; inside = mod-lt m (pow-pos (length ns)); left = omega (arith, ap (λ is. sum (map (sizeAt ns) is)) (below-declared m (length ns) (length ns) (omega arith))) })
 
-  add-step : (b : Bool) (j : VariableNumber) (rest : List VariableNumber) → bytesOf (cond b (j ∷ rest) rest) ≡ cond b (sizeAt ns j) 0 + bytesOf rest
+  pub add-room : (rest i b : ℕ) → Lowest rest i → Adding rest b → i < length ns
+  add-room rest i b o q = o .below (length ns) (q .inside)
+
+  pub add-next : (rest i b rest′ : ℕ) → length ns ≤ 64 → Lowest rest i → rest′ ≡ rest - 2 ^ i → Adding rest b → Adding rest′ (b + getD ns i 0)
   unfolding sum
-  add-step true j rest = refl
-  add-step false j rest = omega arith
+  add-next rest i b rest′ few o e q =
+      let s : bytesOf rest ≡ getD ns i 0 + bytesOf (rest - 2 ^ i) = ap (λ is. sum (map (sizeAt ns) is)) (o .first (length ns) few (q .inside)) in
+      rw e (record { bytes = q .bytes; inside = omega (arith, q .inside); left = omega (arith, q .left, s) })
 
-  pub add-next : (i b x : ℕ) → i < length ns → x ≡ cond (marked m (variable i)) (getD ns i 0) 0 → x ≤ 255 → Adding i b → Adding (i + 1) (b + x)
-  add-next i b x h e l q =
-      let s = ap bytesOf (from-next m (length ns) i h) ∙ add-step (marked m (variable i)) (variable i) (membersFrom m (length ns) (i + 1)) in
-      record { left = omega (arith, q .left, s, e); small = omega (arith, q .small) }
-
-  module _ (i b : ℕ) (q : Adding i b) where
-    pub add-end : length ns ≤ i → b ≡ setBytes m ns
+  module _ (rest b : ℕ) (q : Adding rest b) where
+    pub add-end : rest ≡ 0 → b ≡ setBytes m ns
     unfolding sum
-    add-end h = omega (arith, q .left, ap bytesOf (from-end m (length ns) i h))
+    add-end e =
+        let s : bytesOf rest ≡ 0 = rw (e, below-none (length ns)) in
+        omega (arith, q .left, s)
 
-    pub add-small : length ns ≤ 64 → i ≤ length ns → b ≤ 16320
-    add-small k o = omega (arith, q .small)
+    pub add-small : length ns ≤ 64 → b ≤ 16320
+    add-small few = omega (arith, q .left, set-small m ns few (q .bytes))

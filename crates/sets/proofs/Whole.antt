@@ -4,6 +4,8 @@ use mathlib.Core.Bool.{true}
 use mathlib.Core.List.{List, [], _∷_, _++_, map, append-assoc}
 use Prim.Native.Nat.{ℕ, suc, _+_, _-_, _*_, _^_, _≤_, _<_}
 use native.Mathlib.Omega.{arith}
+use native.Mathlib.Numerals.{add-one}
+use native.Mathlib.Nat.{add-zero}
 use lib.ListN.{length, take, drop, getD, set, length-append, length-drop, length-map}
 use lib.Seq.{take-all, getD-append-seam, set-append-seam}
 use Rattle.bsmp.specs.Base.{sum, upFrom, only, cut, join}
@@ -11,10 +13,10 @@ use Rattle.bsmp.specs.Board.{variable, marked}
 use Rattle.bsmp.specs.Message.{changed, edited, valuesOf}
 use Rattle.bsmp.specs.declared.Operation.{Operation}
 use Rattle.bsmp.specs.declared.VariableNumber.{VariableNumber}
-use Rattle.bsmp.proofs.Lists.{map-map, map-numbers}
+use Rattle.bsmp.proofs.Lists.{map-map, length-upFrom, map-numbers, only-sum}
 use Rattle.bsmp.proofs.Store.{join-cut, lengths-cut}
 use Rattle.lists.specs.Put.{put, part}
-use Rattle.lists.proofs.Put.{put-all}
+use Rattle.lists.proofs.Put.{put-all, put-nil, put-set}
 use Rattle.lists.proofs.Mask.{length-mask, take-changed, drop-changed}
 use Rattle.sets.specs.Members.{membersBelow, membersOf, sizeAt, setBytes}
 use Rattle.sets.specs.Promises.{Sound, BytesAt}
@@ -29,6 +31,32 @@ only-true (i ∷ l) = ap (i ∷_) (only-true l)
 all-members : (n : ℕ) → n ≤ 64 → membersBelow (2 ^ 64 - 1) n ≡ map variable (upFrom 0 n)
 unfolding membersBelow
 all-members n h = only-same (marked (2 ^ 64 - 1)) (λ i. true) 0 n (λ k l. has-all k (omega (arith, l))) ∙ only-true (map variable (upFrom 0 n))
+
+-- their numbers, one after another: the walk that lists them, and the list
+pub all-start : (r : List ℕ) (at n : ℕ) → put r (at + 0) (upFrom 0 (n - 0)) ≡ put r at (upFrom 0 n)
+all-start r at n =
+    let k : n - 0 ≡ n = omega arith in
+    rw (k, add-zero)
+
+pub all-next : (r : List ℕ) (at i n : ℕ) (x : List ℕ) → i < n → at + i < length r → put r (at + i) (upFrom i (n - i)) ≡ x
+    → put (set r (at + i) i) (at + (i + 1)) (upFrom (i + 1) (n - (i + 1))) ≡ x
+all-next r at i n x h l e =
+    let k : n - i ≡ suc (n - (i + 1)) = omega arith in
+    let o : at + (i + 1) ≡ at + i + 1 = omega arith in
+    rw (o, put-set r (at + i) i (upFrom (i + 1) (n - (i + 1))) l, add-one i) (rw (k, add-one i) at e)
+
+pub all-done : (r : List ℕ) (at i n : ℕ) (x : List ℕ) → n ≤ i → put r (at + i) (upFrom i (n - i)) ≡ x → r ≡ x
+all-done r at i n x h e =
+    let k : n - i ≡ 0 = omega arith in
+    sym (put-nil r (at + i)) ∙ (rw k at e)
+
+numbers : (l : List ℕ) → map (λ (i : VariableNumber). i .0) (map variable l) ≡ l
+numbers [] = refl
+numbers (k ∷ l) = ap (k ∷_) (numbers l)
+
+pub list-whole : (m n : ℕ) (r : List ℕ) (at : ℕ) (r′ : List ℕ) → m ≡ 2 ^ 64 - 1 → n ≤ 64 → r′ ≡ put r at (upFrom 0 n)
+    → BytesAt (map (λ i. i .0) (membersBelow m n)) 64 r at n r′
+list-whole m n r at r′ e h w = rw (e, all-members n h, numbers (upFrom 0 n)) (record { count = sym (length-upFrom 0 n); room = h; bytes = w })
 
 -- what stands at each variable's number, for all of them
 at-all : {A : Type 0} (l : List A) (d : A) → map (λ j. getD l (j .0) d) (map variable (upFrom 0 (length l))) ≡ l
@@ -46,6 +74,11 @@ sum-small : (ns : List ℕ) → ((k : ℕ) → getD ns k 0 < 256) → sum ns ≤
 unfolding sum
 sum-small [] h = omega arith
 sum-small (n ∷ ns) h = omega (arith, h 0, sum-small ns (λ k. h (suc k)))
+
+pub set-small : (m : ℕ) (ns : List ℕ) → length ns ≤ 64 → ((k : ℕ) → getD ns k 0 < 256) → setBytes m ns ≤ 16320
+unfolding setBytes membersBelow
+set-small m ns few h =
+    omega (arith, only-sum (sizeAt ns) (marked m) (map variable (upFrom 0 (length ns))), ap sum (at-all ns 0), sum-small ns h)
 
 module _ (ns : List ℕ) (x : ℕ) (few : length ns ≤ 64) (w : x ≡ sum (take (length ns) ns)) where
   all-bytes : x ≡ sum ns

@@ -1,14 +1,14 @@
 -- What the walks over a set ask for, and what they promise. Assumes nothing.
 use mathlib.Core.Path.{_≡_}
-use mathlib.Core.Bool.{Bool, cond}
-use mathlib.Core.List.{List, map}
-use Prim.Native.Nat.{ℕ, _+_, _≤_, _<_}
+use mathlib.Core.Bool.{Bool, false, cond}
+use mathlib.Core.List.{List, _∷_, map}
+use Prim.Native.Nat.{ℕ, _+_, _-_, _^_, _≤_, _<_}
 use lib.ListN.{length, getD}
 use Rattle.bsmp.specs.Base.{sum}
-use Rattle.bsmp.specs.Board.{Layout, variable, members, setOf}
+use Rattle.bsmp.specs.Board.{Layout, variable, marked, members, setOf}
 use Rattle.bsmp.specs.declared.GroupNumber.{GroupNumber}
 use Rattle.lists.specs.Put.{put}
-use Rattle.sets.specs.Members.{membersOf, groupSet}
+use Rattle.sets.specs.Members.{membersBelow, membersOf, groupSet}
 
 -- few variables, and a store of exactly the length that their sizes add up to
 pub record Sound (sizes store : List ℕ) : Type 0 where
@@ -39,3 +39,17 @@ pub record BytesAt (payload : List ℕ) (most : ℕ) (reply : List ℕ) (at n : 
 pub record Turned (member : Bool) (k : ℕ) (v list : List ℕ) (place from next : ℕ) (list′ : List ℕ) : Type 0 where
   pub passed : next ≡ from + cond member k 0
   pub bytes : list′ ≡ cond member (put list place v) list
+
+-- i is the lowest member of a set
+pub record Lowest (set i : ℕ) : Type 0 where
+  pub few : i < 64
+  pub there : 2 ^ i ≤ set
+  pub before : (k : ℕ) → k < i → marked set (variable k) ≡ false
+  pub below : (n : ℕ) → set < 2 ^ n → i < n
+  pub first : (n : ℕ) → n ≤ 64 → set < 2 ^ n → membersBelow set n ≡ variable i ∷ membersBelow (set - 2 ^ i) n
+
+-- no member is below i
+pub record StartOf (set i : ℕ) : Type 0 where
+  pub few : i < 64
+  pub before : (k : ℕ) → k < i → marked set (variable k) ≡ false
+  pub within : (n : ℕ) → set < 2 ^ n → i ≤ n

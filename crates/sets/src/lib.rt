@@ -5,15 +5,16 @@ use bsmp::VariableNumber;
 ghost use mathlib.Core.Path.{_≡_};
 ghost use mathlib.Core.Bool.{true, false, cond};
 ghost use mathlib.Core.List.{[], _∷_, map};
-ghost use Prim.Native.Nat.{_+_, _%_, _^_, _≤_, _<_};
+ghost use Prim.Native.Nat.{_+_, _-_, _%_, _^_, _≤_, _<_};
 ghost use lib.Dec.{eqb};
 ghost use lib.ListN.{length, drop};
-ghost use Rattle.bsmp.specs.Base.{cut, every, some};
+ghost use Rattle.bsmp.specs.Base.{cut, every, some, upFrom};
 ghost use Rattle.bsmp.specs.Board.{marked};
 ghost use Rattle.bsmp.specs.Message.{changed, edited, valuesOf};
-ghost use Rattle.lists.specs.Put.{part};
+ghost use Rattle.lists.specs.Put.{put, part};
 ghost use Rattle.sets.specs.Members.{membersOf, membersBelow, sizeAt, setBytes};
-ghost use Rattle.sets.specs.Promises.{Sound, Below, Named, GroupSet, BytesAt, Turned};
+ghost use Rattle.sets.specs.Promises.{Sound, Below, Named, GroupSet, BytesAt, Lowest, StartOf};
+ghost use Rattle.sets.specs.Runs.{runRead, runChanged, RunOn};
 
 // Whether variable i is marked.
 pub fn is_marked(marks: u64, i: VariableNumber) -> bool
@@ -88,15 +89,20 @@ pub fn group_writable(g: GroupNumber, set: u64, writable: u64) -> bool
     all_marked(set, writable)
 }
 
-// The n bytes of variable i, if it's a member.
-fn bytes_turn(set: u64, i: VariableNumber, n: u8) -> usize
-    requires { ⌜ i .0 < 64 ⌝ }
-    ensures { λ r. ⌜ (r ≡ cond (marked set i) n 0) × (r ≤ 255) ⌝ }
+// The lowest member.
+fn lowest(set: u64) -> usize
+    requires { ⌜ 0 < set ⌝ }
+    ensures { λ r. ⌜ Lowest set r ⌝ }
 {
-    if is_marked(set, i) {
-        return n as usize;
-    }
-    0
+    u64::trailing_zeros(set) as usize
+}
+
+// The other members.
+fn without_lowest(set: u64, i: usize) -> u64
+    requires { ⌜ Lowest set i ⌝ }
+    ensures { λ r. ⌜ r ≡ set - 2 ^ i ⌝ }
+{
+    set - (1 << i)
 }
 
 // The bytes of all members.
@@ -109,32 +115,44 @@ pub fn set_bytes(sizes: &[u8], set: u64) -> usize
         return lists::offset(sizes, sizes.len());
     }
     let mut bytes: usize = 0;
-    let mut i = 0;
-    while i < sizes.len() {
-        bytes += bytes_turn(set, VariableNumber(i), sizes[i]);
-        i += 1;
+    let mut rest = declared(set, sizes.len());
+    while rest != 0 {
+        let i = lowest(rest);
+        bytes += sizes[i] as usize;
+        rest = without_lowest(rest, i);
     }
     bytes
 }
 
-// The n bytes of variable i into the reply, if it's a member; answers the next place there.
-fn read_turn(
-    set: u64,
-    i: VariableNumber,
-    values: &[u8],
-    from: usize,
-    n: usize,
-    reply: &mut [u8],
-    to: usize,
-) -> usize
-    requires { ⌜ (i .0 < 64) × (from + n ≤ length (now values)) × (to + n ≤ length (now reply)) ⌝ }
-    ensures { λ r. ⌜ Turned (marked set i) n (part (now (values .entry)) from n) (now (reply .entry)) to to r (now (reply .exit)) ⌝ }
+// A number that no member is below: the lowest of them, if there are any.
+fn start_of(set: u64) -> usize
+    ensures { λ r. ⌜ StartOf set r ⌝ }
 {
-    if is_marked(set, i) {
-        lists::read_value(values, from, n, reply, to);
-        return to + n;
+    if set == 0 {
+        return 0;
     }
-    to
+    lowest(set)
+}
+
+// Members that a walk met last, one right after the other, and has not carried over yet: their bytes stand together, in the store from `at` on
+// and in the reply or the payload from `other` on.
+struct Run {
+    at: usize,
+    bytes: usize,
+    other: usize,
+}
+
+// A variable of n bytes on the walk. A member lengthens the run; at any other the run is read into the reply, and a new one begins behind it.
+fn read_turn(rest: u64, n: usize, values: &[u8], reply: &mut [u8], run: Run) -> Run
+    requires { ⌜ (run .at + run .bytes + n ≤ length (now values)) × (run .other + run .bytes + n ≤ length (now reply)) ⌝ }
+    ensures { λ r. let value = part (now (values .entry)) (run .at + run .bytes) n in
+        ⌜ RunOn (eqb (rest % 2) 1) n value run (runRead run (now (values .entry)) (now (reply .entry))) (run .other + run .bytes) r (runRead r (now (values .entry)) (now (reply .exit))) ⌝ }
+{
+    if rest % 2 == 1 {
+        return Run { at: run.at, bytes: run.bytes + n, other: run.other };
+    }
+    lists::read_value(values, run.at, run.bytes, reply, run.other);
+    Run { at: run.at + run.bytes + n, bytes: 0, other: run.other + run.bytes }
 }
 
 // The members' values, ascending, into the reply from `at` on; answers how many bytes they are.
@@ -150,38 +168,31 @@ pub fn read_members(sizes: &[u8], set: u64, values: &[u8], reply: &mut [u8], at:
         lists::read_value(values, 0, all, reply, at);
         return all;
     }
-    let mut off: usize = 0;
-    let mut to = at;
-    let mut i = 0;
-    while i < sizes.len() {
-        let n = sizes[i] as usize;
-        to = read_turn(set, VariableNumber(i), values, off, n, reply, to);
-        off += n;
+    let members = declared(set, sizes.len());
+    let mut i = start_of(members);
+    let mut rest = members >> i;
+    let mut run = Run { at: lists::offset(sizes, i), bytes: 0, other: at };
+    while rest != 0 {
+        run = read_turn(rest, sizes[i] as usize, values, reply, run);
         i += 1;
+        rest = rest / 2;
     }
-    to - at
+    lists::read_value(values, run.at, run.bytes, reply, run.other);
+    run.other + run.bytes - at
 }
 
-// The n bytes of variable i changed by the payload's, if it's a member; answers the next place in the payload.
-fn change_turn(
-    set: u64,
-    variable: VariableNumber,
-    values: &mut [u8],
-    at: usize,
-    n: usize,
-    op: Operation,
-    payload: &[u8],
-    from: usize,
-) -> usize
-    requires { ⌜ (variable .0 < 64) × (at + n ≤ length (now values)) × (from + cond (marked set variable) n 0 ≤ length (now payload)) ⌝ }
-    ensures { λ r. let value = changed op (part (now (values .entry)) at n) (part (now (payload .entry)) from n) in
-        ⌜ Turned (marked set variable) n value (now (values .entry)) at from r (now (values .exit)) ⌝ }
+// The same for a walk that changes: at any other variable the run is changed by its part of the payload.
+fn change_turn(rest: u64, n: usize, values: &mut [u8], op: Operation, payload: &[u8], run: Run) -> Run
+    requires { ⌜ (run .at + run .bytes + n ≤ length (now values)) × (run .other + run .bytes + cond (eqb (rest % 2) 1) n 0 ≤ length (now payload)) ⌝ }
+    ensures { λ r. let before = runChanged op run (now (payload .entry)) (now (values .entry)) in
+        let value = changed op (part before (run .at + run .bytes) n) (part (now (payload .entry)) (run .other + run .bytes) n) in
+        ⌜ RunOn (eqb (rest % 2) 1) n value run before (run .at + run .bytes) r (runChanged op r (now (payload .entry)) (now (values .exit))) ⌝ }
 {
-    if is_marked(set, variable) {
-        lists::change_value(values, at, n, op, payload, from);
-        return from + n;
+    if rest % 2 == 1 {
+        return Run { at: run.at, bytes: run.bytes + n, other: run.other };
     }
-    from
+    lists::change_value(values, run.at, run.bytes, op, payload, run.other);
+    Run { at: run.at + run.bytes + n, bytes: 0, other: run.other + run.bytes }
 }
 
 // Each member's value changed by its part of the payload, from place `front` on.
@@ -204,27 +215,28 @@ pub fn change_members(
         lists::change_value(values, 0, all, op, payload, front);
         return;
     }
-    let mut off: usize = 0;
-    let mut from = front;
-    let mut i = 0;
-    while i < sizes.len() {
-        let n = sizes[i] as usize;
-        from = change_turn(set, VariableNumber(i), values, off, n, op, payload, from);
-        off += n;
+    let members = declared(set, sizes.len());
+    let mut i = start_of(members);
+    let mut rest = members >> i;
+    let mut run = Run { at: lists::offset(sizes, i), bytes: 0, other: front };
+    while rest != 0 {
+        run = change_turn(rest, sizes[i] as usize, values, op, payload, run);
         i += 1;
+        rest = rest / 2;
     }
+    lists::change_value(values, run.at, run.bytes, op, payload, run.other);
 }
 
-// The number of variable i into the reply, if it's a member; answers the next place there.
-fn list_turn(set: u64, i: VariableNumber, reply: &mut [u8], to: usize) -> usize
-    requires { ⌜ (i .0 < 64) × (to < length (now reply)) ⌝ }
-    ensures { λ r. ⌜ Turned (marked set i) 1 (i .0 ∷ []) (now (reply .entry)) to to r (now (reply .exit)) ⌝ }
+// The numbers of the first variables, a byte each, into the reply from `at` on.
+fn list_all(count: usize, reply: &mut [u8], at: usize)
+    requires { ⌜ (count ≤ 64) × (at + 64 ≤ length (now reply)) ⌝ }
+    ensures { λ _. ⌜ now (reply .exit) ≡ put (now (reply .entry)) at (upFrom 0 count) ⌝ }
 {
-    if is_marked(set, i) {
-        reply[to] = i.0 as u8;
-        return to + 1;
+    let mut i = 0;
+    while i < count {
+        reply[at + i] = i as u8;
+        i += 1;
     }
-    to
 }
 
 // The members' numbers, ascending, a byte each, into the reply from `at` on; answers how many they are.
@@ -232,11 +244,17 @@ pub fn list_members(count: usize, set: u64, reply: &mut [u8], at: usize) -> usiz
     requires { ⌜ (count ≤ 64) × (at + 64 ≤ length (now reply)) ⌝ }
     ensures { λ r. ⌜ BytesAt (map (λ i. i .0) (membersBelow set count)) 64 (now (reply .entry)) at r (now (reply .exit)) ⌝ }
 {
+    if set == !0 {
+        list_all(count, reply, at);
+        return count;
+    }
     let mut to = at;
-    let mut i = 0;
-    while i < count {
-        to = list_turn(set, VariableNumber(i), reply, to);
-        i += 1;
+    let mut rest = declared(set, count);
+    while rest != 0 {
+        let i = lowest(rest);
+        reply[to] = i as u8;
+        to += 1;
+        rest = without_lowest(rest, i);
     }
     to - at
 }

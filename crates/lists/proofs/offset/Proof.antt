@@ -37,4 +37,4 @@ pub offset-spec : {M : Type 1} → statement M
 offset-spec =
     tie.close
     (tie.spec
-    Inv-loop μ-loop loop-holds (λ c. search needs) cast-sum add-sum (λ c. search needs) (λ c. search needs) loop-again returns)
+    Inv-loop μ-loop loop-holds (λ c. search needs) cast-sum add-sum (λ c. search needs) (λ c. search needs) loop-again (λ c. search needs) returns)

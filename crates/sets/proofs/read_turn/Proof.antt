@@ -1,5 +1,5 @@
 -- `read_turn` meets its contract. Assumes nothing.
-use Rattle.sets.proofs.Walk.{turned-yes, turned-no}
+use Rattle.sets.proofs.Runs.{read-longer, read-over}
 use borrow.Author.Needs.{needs}
 use Rattle.sets.proofs.read_turn.Statement.{statement}
 use Rattle.sets.proofs.read_turn.Tie as tie
@@ -7,5 +7,5 @@ use Rattle.sets.proofs.read_turn.Tie as tie
 pub read-turn-spec : {M : Type 1} → statement M
 read-turn-spec =
     tie.close
-    (tie.spec (λ c κs. search needs) (λ c κs. search needs) (λ c. search needs) (λ c. search needs)
-    (λ c. search (turned-yes, needs)) (λ c. search (turned-no, needs)))
+    (tie.spec (λ c. search needs) (λ c. search (read-longer, needs)) (λ c κs. search needs) (λ c. search needs) (λ c. search needs) (λ c. search needs)
+    (λ c. search needs) (λ c. search (read-over, needs)))

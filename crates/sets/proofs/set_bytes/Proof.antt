@@ -1,19 +1,20 @@
 -- `set_bytes` meets its contract. Assumes nothing.
-use Prim.Native.Nat.{ℕ, _-_, _≤_, _<_}
+use Prim.Native.Nat.{ℕ, _<_}
 use native.Mathlib.Omega.{arith}
-use lib.ListN.{length, getD}
+use lib.ListN.{getD}
 use denote.Ref.{now}
 use borrow.Author.Needs.{needs}
-use Rattle.sets.proofs.Walk.{Adding, add-start, add-next, add-end, add-small}
+use Rattle.sets.proofs.First.{lowest-less}
+use Rattle.sets.proofs.Walk.{Adding, add-start, add-room, add-next, add-end, add-small}
 use Rattle.sets.proofs.Whole.{bytes-whole, small-whole}
 use Rattle.sets.proofs.set_bytes.Statement.{statement}
 use Rattle.sets.proofs.set_bytes.Tie as tie
 
 abbrev Inv-loop : tie.InvT-loop
-Inv-loop sizes set bytes₀ i₀ bytes i = (i ≤ length sizes) × Adding sizes set i bytes
+Inv-loop sizes set bytes₀ rest₀ bytes rest = Adding sizes set rest bytes
 
 abbrev μ-loop : tie.MeasureT-loop
-μ-loop sizes set bytes₀ i₀ bytes i = length sizes - i
+μ-loop sizes set bytes₀ rest₀ bytes rest = rest
 
 returns : tie.Need-returns Inv-loop μ-loop
 returns c =
@@ -21,9 +22,20 @@ returns c =
     let bytes : (k : ℕ) → getD sizes k 0 < 256 = λ k. omega (arith, c .before .before .shared-slice-known .given k) in
     (search (bytes-whole, needs), search (small-whole, needs))
 
+loop-holds : tie.Need-loop-holds Inv-loop μ-loop
+loop-holds c = add-start _ _ _ (λ k. omega (arith, c .before .before .shared-slice-known .given k)) (c .declared .ensures)
+
+cast-bytes : tie.Need-cast-bytes Inv-loop μ-loop
+cast-bytes c = omega (arith, c .before .before .before .loop .inv .bytes (c .before .lowest .result))
+
+add-bytes : tie.Need-add-bytes Inv-loop μ-loop
+add-bytes c =
+    let l = c .before .before .before .loop in
+    omega (arith, l .inv .bytes (c .before .lowest .result), add-small _ _ (l .rest) (l .bytes) (l .inv) (search needs))
+
 pub set-bytes-spec : {M : Type 1} → statement M
 set-bytes-spec =
     tie.close
-    (tie.spec Inv-loop μ-loop (λ c κs. search needs) returns
-    (λ c. (search needs, search (add-start, needs))) (λ c. search needs) (λ c κs. search needs) (λ c. search needs)
-    (λ c. search needs) (λ c. search needs) (λ c. (search needs, search (add-next, needs))) (λ c. (search (add-end, needs), search (add-small, needs))))
+    (tie.spec Inv-loop μ-loop (λ c κs. search needs) returns (λ c κs. search needs) loop-holds
+    (λ c κs. search needs) (λ c. search (add-room, needs)) cast-bytes add-bytes
+    (λ c κs. search needs) (λ c. search (lowest-less, needs)) (λ c. search (add-next, needs)) (λ c. (search (add-end, needs), search (add-small, needs))))

@@ -1,0 +1,15 @@
+-- `read_block` meets its contract. Assumes nothing.
+use Rattle.lists.proofs.Put.{put-part}
+use borrow.Author.Needs.{needs}
+use Rattle.lists.proofs.read_block.Statement.{statement}
+use Rattle.lists.proofs.read_block.Tie as tie
+
+returns : tie.Need-returns
+returns c = search (put-part, needs)
+
+pub read-block-spec : {M : Type 1} → statement M
+read-block-spec =
+    tie.close
+    (tie.spec
+    (λ c. search needs) (λ c. search needs) (λ c. search needs) (λ c. search needs) (λ c. search needs) (λ c. search needs) (λ c. search needs)
+    (λ c κs. search needs) (λ c. search needs) returns)

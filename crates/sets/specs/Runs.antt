@@ -1,0 +1,25 @@
+-- Runs of members on a walk: what the lists are with the run carried over, and a turn of the walk on such lists. Assumes nothing.
+use mathlib.Core.Path.{_≡_}
+use mathlib.Core.Bool.{Bool}
+use mathlib.Core.List.{List}
+use Prim.Native.Nat.{ℕ, _+_}
+use lib.ListN.{length}
+use Rattle.bsmp.specs.Message.{changed}
+use Rattle.bsmp.specs.declared.Operation.{Operation}
+use Rattle.lists.specs.Put.{put, part}
+use Rattle.sets.specs.Promises.{Turned}
+use Rattle.sets.specs.declared.Run.{Run}
+
+-- the reply, with the run read into it
+abbrev pub runRead : Run → (store reply : List ℕ) → List ℕ
+runRead x s r = put r (x .other) (part s (x .at) (x .bytes))
+
+-- the store, with the run changed by its part of the payload
+abbrev pub runChanged : Operation → Run → (payload store : List ℕ) → List ℕ
+runChanged op x p s = put s (x .at) (changed op (part s (x .at) (x .bytes)) (part p (x .other) (x .bytes)))
+
+-- a turn over a variable of n bytes makes y of the run x: the same turn as that of a walk without runs, once both are carried over
+pub record RunOn (member : Bool) (n : ℕ) (v : List ℕ) (x : Run) (list : List ℕ) (place : ℕ) (y : Run) (list′ : List ℕ) : Type 0 where
+  pub ends : y .at + y .bytes ≡ x .at + x .bytes + n
+  pub kept : length list′ ≡ length list
+  pub turned : Turned member n v list place (x .other + x .bytes) (y .other + y .bytes) list′
