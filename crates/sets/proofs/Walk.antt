@@ -78,12 +78,6 @@ place-next ns i off n h k e = omega (arith, total-take ns i h)
 pub place-room : (ns s : List ℕ) (i off : ℕ) → Sound ns s → i < length ns → off ≡ sum (take i ns) → off + getD ns i 0 ≤ length s
 place-room ns s i off z h e = omega (arith, total-within ns i h, z .exact)
 
-pub place-fits : (ns s : List ℕ) (i off : ℕ) → Sound ns s → i < length ns → off ≡ sum (take i ns) → off + getD ns i 0 < 2 ^ 64
-place-fits ns s i off z h e = omega (arith, total-within ns i h, z .exact, z .small)
-
-pub size-fits : (ns s : List ℕ) (i : ℕ) → Sound ns s → i < length ns → getD ns i 0 < 2 ^ 64
-size-fits ns s i z h = omega (arith, total-within ns i h, z .exact, z .small)
-
 module _ (ns s : List ℕ) (m : ℕ) (r₀ : List ℕ) (at : ℕ) where
   -- the reading from variable i on
   abbrev pub Reading : ℕ → List ℕ → ℕ → Type 0

@@ -149,10 +149,20 @@ fn read_turn(rest: u64, n: usize, values: &[u8], reply: &mut [u8], run: Run) -> 
         ⌜ RunOn (eqb (rest % 2) 1) n value run (runRead run (now (values .entry)) (now (reply .entry))) (run .other + run .bytes) r (runRead r (now (values .entry)) (now (reply .exit))) ⌝ }
 {
     if rest % 2 == 1 {
-        return Run { at: run.at, bytes: run.bytes + n, other: run.other };
+        return Run {
+            at: run.at,
+            bytes: run.bytes + n,
+            other: run.other,
+        };
     }
     lists::read_value(values, run.at, run.bytes, reply, run.other);
-    Run { at: run.at + run.bytes + n, bytes: 0, other: run.other + run.bytes }
+    let from = run.at + run.bytes + n;
+    let to = run.other + run.bytes;
+    Run {
+        at: from,
+        bytes: 0,
+        other: to,
+    }
 }
 
 // The members' values, ascending, into the reply from `at` on; answers how many bytes they are.
@@ -171,7 +181,11 @@ pub fn read_members(sizes: &[u8], set: u64, values: &[u8], reply: &mut [u8], at:
     let members = declared(set, sizes.len());
     let mut i = start_of(members);
     let mut rest = members >> i;
-    let mut run = Run { at: lists::offset(sizes, i), bytes: 0, other: at };
+    let mut run = Run {
+        at: lists::offset(sizes, i),
+        bytes: 0,
+        other: at,
+    };
     while rest != 0 {
         run = read_turn(rest, sizes[i] as usize, values, reply, run);
         i += 1;
@@ -182,17 +196,32 @@ pub fn read_members(sizes: &[u8], set: u64, values: &[u8], reply: &mut [u8], at:
 }
 
 // The same for a walk that changes: at any other variable the run is changed by its part of the payload.
-fn change_turn(rest: u64, n: usize, values: &mut [u8], op: Operation, payload: &[u8], run: Run) -> Run
+fn change_turn(
+    rest: u64,
+    n: usize,
+    values: &mut [u8],
+    op: Operation,
+    payload: &[u8],
+    run: Run,
+) -> Run
     requires { ⌜ (run .at + run .bytes + n ≤ length (now values)) × (run .other + run .bytes + cond (eqb (rest % 2) 1) n 0 ≤ length (now payload)) ⌝ }
     ensures { λ r. let before = runChanged op run (now (payload .entry)) (now (values .entry)) in
         let value = changed op (part before (run .at + run .bytes) n) (part (now (payload .entry)) (run .other + run .bytes) n) in
         ⌜ RunOn (eqb (rest % 2) 1) n value run before (run .at + run .bytes) r (runChanged op r (now (payload .entry)) (now (values .exit))) ⌝ }
 {
     if rest % 2 == 1 {
-        return Run { at: run.at, bytes: run.bytes + n, other: run.other };
+        return Run {
+            at: run.at,
+            bytes: run.bytes + n,
+            other: run.other,
+        };
     }
     lists::change_value(values, run.at, run.bytes, op, payload, run.other);
-    Run { at: run.at + run.bytes + n, bytes: 0, other: run.other + run.bytes }
+    Run {
+        at: run.at + run.bytes + n,
+        bytes: 0,
+        other: run.other + run.bytes,
+    }
 }
 
 // Each member's value changed by its part of the payload, from place `front` on.
@@ -215,10 +244,14 @@ pub fn change_members(
         lists::change_value(values, 0, all, op, payload, front);
         return;
     }
-    let members = declared(set, sizes.len());
-    let mut i = start_of(members);
-    let mut rest = members >> i;
-    let mut run = Run { at: lists::offset(sizes, i), bytes: 0, other: front };
+    let written = declared(set, sizes.len());
+    let mut i = start_of(written);
+    let mut rest = written >> i;
+    let mut run = Run {
+        at: lists::offset(sizes, i),
+        bytes: 0,
+        other: front,
+    };
     while rest != 0 {
         run = change_turn(rest, sizes[i] as usize, values, op, payload, run);
         i += 1;

@@ -7,10 +7,10 @@ use Rattle.sets.proofs.change_members.Statement.{statement}
 use Rattle.sets.proofs.change_members.Tie as tie
 
 abbrev Inv-loop : tie.InvT-loop
-Inv-loop sizes set values₀ op payload front members i₀ rest₀ run₀ values i rest run = EditingRun op sizes payload set front values₀ i rest run values
+Inv-loop sizes set values₀ op payload front written i₀ rest₀ run₀ values i rest run = EditingRun op sizes payload set front values₀ i rest run values
 
 abbrev μ-loop : tie.MeasureT-loop
-μ-loop sizes set values₀ op payload front members i₀ rest₀ run₀ values i rest run = rest
+μ-loop sizes set values₀ op payload front written i₀ rest₀ run₀ values i rest run = rest
 
 pub change-members-spec : {M : Type 1} → statement M
 change-members-spec =
