@@ -13,19 +13,6 @@ Inv-loop count writable sizes kinds window bytes₀ marks₀ from₀ bytes marks
 abbrev μ-loop : tie.MeasureT-loop
 μ-loop count writable sizes kinds window bytes₀ marks₀ from₀ bytes marks from = count - from
 
--- a search through all that is known runs out of steps at these two, so it is told what to look at
-add-marks-requires : tie.Need-add-marks-requires Inv-loop μ-loop
-add-marks-requires c κs =
-    let told = c .before .before .before in
-    let turn = told .before .before .before .before .loop .inv in
-    ((search (counted-piece, needs), search (counted-types, turn, told .before .usable-piece .ensures, told .if3 .left)), search needs)
-
-loop-again : tie.Need-loop-again Inv-loop μ-loop
-loop-again c =
-    let told = c .before .before .before .before in
-    let turn = told .before .before .before .before .loop .inv in
-    search (counted-next, c .add-marks .ensures, c .before .before .add-bytes .ensures, turn, told .before .usable-piece .ensures, told .if3 .left)
-
 pub usable-records-spec : {M : Type 1} → statement M
 usable-records-spec =
     tie.close
@@ -39,9 +26,9 @@ usable-records-spec =
     (λ c κs. search (counted-piece, needs))
     (λ c. search (counted-stop, needs))
     (λ c κs. (search (counted-piece, needs), search needs))
-    add-marks-requires
+    (λ c κs. ((search (counted-piece, needs), search (counted-types, c .before .before .before .before .before .before .before .loop .inv, c .before .before .before .before .usable-piece .ensures, c .before .before .before .if3 .left)), search needs))
     (λ c. search needs)
     (λ c. search needs)
-    loop-again
+    (λ c. search (counted-next, c .add-marks .ensures, c .before .before .add-bytes .ensures, c .before .before .before .before .before .before .before .before .loop .inv, c .before .before .before .before .before .usable-piece .ensures, c .before .before .before .before .if3 .left))
     (λ c. search (records-refused, variables-large, counted-sum, needs))
     (λ c. search (counted-end, needs)))
