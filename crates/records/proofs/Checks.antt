@@ -1,6 +1,6 @@
 -- The rules of refusal 1 as the code meets them, one after another. Assumes nothing.
 use mathlib.Core.Path.{_≡_, refl, sym, _∙_}
-use mathlib.Core.Bool.{Bool, true, false, not, _&&_, _||_, and-false}
+use mathlib.Core.Bool.{Bool, true, false, not, _&&_, and-false}
 use mathlib.Core.List.{List, [], _∷_}
 use Prim.Native.Nat.{ℕ, zero, suc, _+_, _*_, _/_, _^_, _≤_, _<_}
 use native.Mathlib.Omega.{arith}
@@ -10,26 +10,18 @@ use lib.ListN.{length, getD}
 use mir.Syntax.{w64}
 use mir.Val.{Fits}
 use borrow.Author.Tests.{lt-ltb, le-ltb, lt-leb, le-leb, ne-eqb, ltb-true, ltb-false, leb-true, not-false}
-use Rattle.bsmp.specs.Base.{sum, all, every, some, within}
+use Rattle.bsmp.specs.Base.{sum, all, every, within}
 use Rattle.bsmp.specs.Codes.{kindOf}
 use Rattle.bsmp.specs.Board.{isType, fitsKind, sizesOf, writableOf, usableVariable, variableRules, usableVariables, usableCurve, curveRules, usableCurves}
+use Rattle.bsmp.specs.declared.Kind.{Kind}
 use Rattle.bsmp.specs.declared.Variable.{Variable}
 use Rattle.bsmp.specs.declared.Curve.{Curve}
 use Rattle.bsmp.specs.declared.Function.{Function}
 use Rattle.bsmp.proofs.Bools.{and-true}
 use Rattle.records.specs.Checks.{checkedOf, curveBytes, curvesCheckedOf}
 
--- kind 0 fits every size, 1 to 4 a number's sizes, and no other fits
-pub fits-told : (n k : ℕ) (b : Bool) → b ≡ some (eqb n) (1 ∷ 2 ∷ 4 ∷ 8 ∷ []) → (eqb k 0 || (leb k 4 && b)) ≡ fitsKind n (kindOf k)
-unfolding kindOf
-fits-told n zero b e = refl
-fits-told n (suc zero) b e = e
-fits-told n (suc (suc zero)) b e = e
-fits-told n (suc (suc (suc zero))) b e = e
-fits-told n (suc (suc (suc (suc zero)))) b e = e
-fits-told n (suc (suc (suc (suc (suc k))))) b e =
-    let x : ℕ = suc (suc (suc (suc (suc k)))) in
-    rw (lt-leb x 4 (omega arith), ne-eqb x 0 (λ z. omega (arith, z)), ne-eqb x 1 (λ z. omega (arith, z)), ne-eqb x 2 (λ z. omega (arith, z)), ne-eqb x 3 (λ z. omega (arith, z)), ne-eqb x 4 (λ z. omega (arith, z)))
+pub fits-case : (n x : ℕ) (k m : Kind) (b : Bool) → k ≡ kindOf x → k ≡ m → b ≡ fitsKind n m → b ≡ fitsKind n (kindOf x)
+fits-case n x k m b e o h = rw (← e, o) h
 
 -- rules joined by &&, one after another; x is what the code answers
 module _ (a b : Bool) where
@@ -59,6 +51,11 @@ all-off (b ∷ bs) (suc k) h = rw (all-off bs k h) (and-false b)
 -- what a usable record bounds
 pub inside : (a b n : ℕ) → within a b n ≡ true → (a ≤ n) × (n ≤ b)
 inside a b n u = let w = and-true (leb a n) (leb n b) u in (leb-true a n (w .0), leb-true n b (w .1))
+
+pub variable-rules : (v : Variable) → usableVariable v ≡ true → (v .writable ≤ 1) × ((1 ≤ v .size) × (v .size ≤ 127))
+variable-rules v u =
+    let w = and-true (isType (v .writable)) (within 1 127 (v .size)) (and-true _ _ u .0) in
+    (leb-true _ _ (w .0), inside 1 127 (v .size) (w .1))
 
 pub curve-rules : (c : Curve) → usableCurve c ≡ true → ((1 ≤ c .size) × (c .size ≤ 4096)) × ((1 ≤ c .blocks) × (c .blocks ≤ 65536))
 curve-rules c u =

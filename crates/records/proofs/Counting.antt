@@ -1,92 +1,97 @@
--- The walk over the variable records, 16 at a time: their test, the sum of their sizes and the marks of the writable ones, together. Assumes nothing.
-use mathlib.Core.Path.{_≡_, refl, sym, ap, _∙_}
+-- The walk over the variable records: their test, the sum of their sizes and the marks of the writable ones, together. Assumes nothing.
+use mathlib.Core.Path.{_≡_, refl, sym, _∙_}
 use mathlib.Core.Bool.{Bool, true, false, not}
-use mathlib.Core.List.{List, [], _∷_, map, map-map}
-use Prim.Native.Nat.{ℕ, zero, suc, _+_, _%_, _≤_, _<_}
+use mathlib.Core.List.{List}
+use Prim.Native.Nat.{ℕ, zero, suc, _+_, _*_, _%_, _^_, _≤_, _<_}
 use native.Mathlib.Omega.{arith}
-use lib.ListN.{take, drop, getD, length-map, take-append-drop}
-use lib.Seq.{take-all}
-use borrow.Author.Tests.{not-true, not-false}
-use Rattle.bsmp.specs.Base.{sum, upFrom, every, marksOf}
-use Rattle.bsmp.specs.Board.{isType, isWritable, sizesOf, writableOf, usableVariable}
+use native.Mathlib.Numerals.{add-one}
+use native.Mathlib.Nat.{mod-eq-of-lt, zero-mul, one-mul, pow-le-pow-right, two-pow-succ}
+use lib.Dec.{lit<}
+use lib.ListN.{drop, getD}
+use mir.Syntax.{w64}
+use mir.Val.{Fits}
+use borrow.Author.Tests.{not-false}
+use Rattle.bsmp.specs.Base.{sum, bit}
+use Rattle.bsmp.specs.Board.{isWritable, sizesOf, writableOf, usableVariable}
 use Rattle.bsmp.specs.declared.Variable.{Variable}
-use Rattle.bsmp.proofs.Bools.{and-true}
+use Rattle.records.specs.declared.Records.{Records}
 use Rattle.records.specs.Lending.{recordsBy, recordAt, recordsOf}
-use Rattle.records.specs.Pieces.{column, Window, Piece, Passes, Typed, Weighed, Marked}
 use Rattle.records.specs.Checks.{checkedOf}
-use Rattle.records.proofs.Walk.{length-numbered}
-use Rattle.records.proofs.Lending.{record-count}
-use Rattle.records.proofs.Checks.{records-refused, records-taken, variables-broken}
-use Rattle.records.proofs.Pieces.{every-join}
+use Rattle.records.proofs.Walk.{Walked, walked-start, walked-next, walked-stop, walked-end, sum-next, sum-end, marks-next, marks-end}
+use Rattle.records.proofs.Lending.{noVariable, record-count, record-at}
+use Rattle.records.proofs.Checks.{variable-rules, records-refused, records-taken, variables-broken}
 
--- what the first fail, all fail
-first-fail : {A : Type 0} (f : A → Bool) (n : ℕ) (xs : List A) → every f (take n xs) ≡ false → every f xs ≡ false
-first-fail f n xs h = ap (every f) (sym (take-append-drop n xs)) ∙ every-join f (take n xs) (drop n xs) ∙ rw h
+-- at record i: n bytes and the marks m so far
+pub record Counted (vs : List Variable) (n m i : ℕ) : Type 0 where
+  pub walked : Walked usableVariable vs i
+  pub summed : n + sum (sizesOf (drop i vs)) ≡ sum (sizesOf vs)
+  pub marked : m + 2 ^ i * writableOf (drop i vs) ≡ writableOf vs
+  pub small : n ≤ 127 * i
+  pub narrow : m < 2 ^ i
 
--- types of usable records are 0 and 1
-types-pass : (n : ℕ) (vs : List Variable) → every usableVariable (take n vs) ≡ true → every isType (take n (map (λ v. v .writable) vs)) ≡ true
-types-pass zero vs h = refl
-types-pass (suc n) [] h = refl
-types-pass (suc n) (v ∷ vs) h =
-    let w = and-true (usableVariable v) (every usableVariable (take n vs)) h in
-    let t : isType (v .writable) ≡ true = and-true _ _ (and-true _ _ (w .0) .0) .0 in
-    rw (t, types-pass n vs (w .1))
+pub counted-start : (vs : List Variable) → Counted vs 0 0 0
+counted-start vs = record { walked = walked-start usableVariable vs; summed = omega arith; marked = omega arith; small = omega arith; narrow = omega arith }
 
--- before place `from` of records by columns: all pass, n bytes, and the marks m
-pub record Counted (count : ℕ) (ws ss ks : List ℕ) (n m from : ℕ) : Type 0 where
-  pub stepped : from % 16 ≡ 0
-  pub passed : every usableVariable (take from (recordsOf (recordsBy count ws ss ks))) ≡ true
-  pub weighed : Weighed count ss from n
-  pub marked : Marked count ws from m
-
+-- the records, by their columns
 module _ (count : ℕ) (ws ss ks : List ℕ) where
-  abbrev vs : List Variable
-  vs = recordsOf (recordsBy count ws ss ks)
+  abbrev r : Records
+  r = recordsBy count ws ss ks
 
-  abbrev ms : List Bool
-  ms = map isWritable (column ws count)
+  module _ (i n m : ℕ) (b : Bool) (h : i < count) (l : count ≤ 64) (e : b ≡ usableVariable (recordAt r i)) (t : not b ≡ false) (q : Counted (recordsOf r) n m i) where
+    rules : (getD ws i 0 ≤ 1) × ((1 ≤ getD ss i 0) × (getD ss i 0 ≤ 127))
+    rules = variable-rules (recordAt r i) (sym e ∙ not-false b t)
 
-  sizes-column : sizesOf vs ≡ column ss count
-  unfolding recordsOf
-  sizes-column = map-map (λ v. v .size) (recordAt (recordsBy count ws ss ks)) (upFrom 0 count)
+    double : 2 ^ i + 2 ^ i ≤ 2 ^ 64
+    double = let p : suc i ≤ 64 = omega arith in rw (← two-pow-succ i) (pow-le-pow-right (lit< tt) p)
 
-  types-column : map (λ v. v .writable) vs ≡ column ws count
-  unfolding recordsOf
-  types-column = map-map (λ v. v .writable) (recordAt (recordsBy count ws ss ks)) (upFrom 0 count)
+    mark : getD ws i 0 * 2 ^ i % 2 ^ 64 ≡ bit (isWritable (getD ws i 0)) * 2 ^ i
+    mark = by (getD ws i 0) (rules .0)
+      where
+        by : (w : ℕ) → w ≤ 1 → w * 2 ^ i % 2 ^ 64 ≡ bit (isWritable w) * 2 ^ i
+        by zero k = rw (zero-mul (2 ^ i))
+        by (suc zero) k = mod-eq-of-lt (rw (one-mul (2 ^ i)) (omega (arith, double)))
+        by (suc (suc w)) k = absurd (omega (arith, k))
 
-  marks-column : writableOf vs ≡ marksOf ms
-  marks-column = ap marksOf (sym (map-map isWritable (λ v. v .writable) vs) ∙ ap (map isWritable) types-column)
+    mark-small : getD ws i 0 * 2 ^ i % 2 ^ 64 ≤ 2 ^ i
+    mark-small = rw mark (by (isWritable (getD ws i 0)))
+      where
+        by : (w : Bool) → bit w * 2 ^ i ≤ 2 ^ i
+        by true = omega arith
+        by false = omega arith
 
-  pub counted-start : Counted count ws ss ks 0 0 0
-  unfolding sum
-  counted-start = record { stepped = refl; passed = refl; weighed = record { told = refl; light = omega arith }; marked = record { told = refl } }
+    pub total-fits : Fits w64 (n + getD ss i 0)
+    total-fits = record { fits = omega (arith, rules .1, q .small) }
 
-  module _ (n m from : ℕ) (b : Bool) (q : Counted count ws ss ks n m from) (u : Passes vs from b) where
-    next : every usableVariable (take (from + 16) vs) ≡ b
-    next = u .told ∙ rw (q .passed)
+    pub marks-fit : Fits w64 (m + getD ws i 0 * 2 ^ i % 2 ^ 64)
+    marks-fit = record { fits = omega (arith, mark-small, double, q .narrow) }
 
-    pub counted-stop : not b ≡ true → record { usable = false; total = 0; writable = 0 } ≡ checkedOf vs
-    counted-stop t = records-refused vs (variables-broken vs (first-fail usableVariable (from + 16) vs (next ∙ not-true b t)))
+    pub counted-next : Counted (recordsOf r) (n + getD ss i 0) (m + getD ws i 0 * 2 ^ i % 2 ^ 64) (i + 1)
+    counted-next =
+        let k = record-count r in
+        let o = record-at r i h in
+        record {
+          walked = walked-next usableVariable (recordsOf r) count i (recordAt r i) noVariable b k h o e t (q .walked);
+          summed = sum-next (recordsOf r) count i (recordAt r i) noVariable k h o (λ v. v .size) n _ _ refl (q .summed);
+          marked = marks-next (recordsOf r) count i (recordAt r i) noVariable k h o (λ v. isWritable (v .writable)) m _ _ mark (q .marked);
+          small = omega (arith, rules .1, q .small);
+          narrow = rw (add-one, two-pow-succ) (omega (arith, mark-small, q .narrow));
+        }
 
-    pub counted-types : not b ≡ false → Typed count from ws
-    counted-types t = record { each = rw types-column at (types-pass (from + 16) vs (next ∙ not-false b t)) }
+  -- a record that breaks the rules
+  pub counted-stop : (i n m : ℕ) (b : Bool) → i < count → b ≡ usableVariable (recordAt r i) → not b ≡ true → Counted (recordsOf r) n m i
+      → record { usable = false; total = 0; writable = 0 } ≡ checkedOf (recordsOf r)
+  counted-stop i n m b h e t q =
+      records-refused (recordsOf r) (variables-broken (recordsOf r) (walked-stop usableVariable (recordsOf r) count i (recordAt r i) noVariable b (record-count r) h (record-at r i h) e t (q .walked)))
 
-    pub counted-next : (x y : ℕ) → not b ≡ false → Weighed count ss (from + 16) x → Marked count ws (from + 16) y → Counted count ws ss ks x y (from + 16)
-    counted-next x y t e d = record { stepped = omega (arith, q .stepped); passed = next ∙ not-false b t; weighed = e; marked = d }
+  pub counted-sum : (i n m : ℕ) → count ≤ i → Counted (recordsOf r) n m i → n ≡ sum (sizesOf (recordsOf r))
+  counted-sum i n m h q = sum-end (recordsOf r) count i (record-count r) h (λ v. v .size) n _ (q .summed)
 
-  -- past the last record
-  module _ (n m from : ℕ) (h : count ≤ from) (q : Counted count ws ss ks n m from) where
-    pub counted-sum : n ≡ sum (sizesOf vs)
-    counted-sum = q .weighed .told ∙ ap sum (take-all from (column ss count) (rw (length-numbered (λ i. getD ss i 0) count) h) ∙ sym sizes-column)
-
-    pub counted-end : 1 ≤ count → count ≤ 64 → n ≤ 4096 → record { usable = true; total = n; writable = m } ≡ checkedOf vs
-    counted-end a b l =
-        let k = record-count (recordsBy count ws ss ks) in
-        records-taken vs count n m k a b
-        (rw (take-all from vs (rw (← k) h)) at (q .passed))
-        counted-sum
-        l
-        (q .marked .told ∙ ap marksOf (take-all from ms (rw (length-map, length-numbered) h)) ∙ sym marks-column)
-
-pub counted-piece : (count : ℕ) (ws ss ks w : List ℕ) (n m from : ℕ) → count ≤ 64 → from < count → Window w → Counted count ws ss ks n m from → Piece count from w
-counted-piece count ws ss ks w n m from l h g q = record { few = l; inside = h; stepped = q .stepped; seen = g }
+  pub counted-end : (i n m : ℕ) → 1 ≤ count → count ≤ 64 → count ≤ i → Counted (recordsOf r) n m i → n ≤ 4096
+      → record { usable = true; total = n; writable = m } ≡ checkedOf (recordsOf r)
+  counted-end i n m a b h q l =
+      let k = record-count r in
+      records-taken (recordsOf r) count n m k a b
+      (walked-end usableVariable (recordsOf r) count i k h (q .walked))
+      (counted-sum i n m h q)
+      l
+      (marks-end (recordsOf r) count i k h (λ v. isWritable (v .writable)) m _ (q .marked))

@@ -11,10 +11,9 @@ use Rattle.bsmp.specs.Base.{every}
 use Rattle.bsmp.specs.Board.{blankCurve, usableCurve, usableCurves}
 use Rattle.bsmp.specs.declared.Curve.{Curve}
 use Rattle.bsmp.proofs.Bools.{not-so}
-use Rattle.bsmp.proofs.Lists.{every-at}
 use Rattle.records.specs.Lending.{curvesOf}
 use Rattle.records.specs.Checks.{curveBytes, curvesCheckedOf}
-use Rattle.records.proofs.Walk.{Walked, walked-start, walked-next, walked-stop, walked-end, sum-next, sum-end}
+use Rattle.records.proofs.Walk.{Walked, every-at, walked-start, walked-next, walked-stop, walked-end, sum-next, sum-end}
 use Rattle.records.proofs.Lending.{curve-count, curve-whole, curve-broken}
 use Rattle.records.proofs.Checks.{curves-many, curves-broken, curves-taken, curve-fits, curve-sum-small, curve-sum-fits}
 

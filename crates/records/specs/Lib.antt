@@ -1,3 +1,2 @@
 pub mod Lending
 pub mod Checks
-pub mod Pieces

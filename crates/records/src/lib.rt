@@ -3,6 +3,7 @@ use bsmp::Curve;
 use bsmp::CurveNumber;
 use bsmp::Function;
 use bsmp::FunctionNumber;
+use bsmp::Kind;
 use bsmp::Variable;
 ghost use mathlib.Core.Path.{_≡_};
 ghost use mathlib.Core.Bool.{true, _&&_};
@@ -14,7 +15,6 @@ ghost use Rattle.bsmp.specs.Base.{some};
 ghost use Rattle.bsmp.specs.Codes.{kindOf};
 ghost use Rattle.bsmp.specs.Board.{blankCurve, blankFunction, fitsKind, usableVariable, usableCurve, usableCurves, usableFunctions, usableGroups};
 ghost use Rattle.records.specs.Lending.{recordsBy, recordsOf, curvesOf, functionsOf, groupsOf, tableOf, lent};
-ghost use Rattle.records.specs.Pieces.{Window, Seen, Piece, Passes, Typed, Weighed, Marked};
 ghost use Rattle.records.specs.Checks.{checkedOf, curveBytes, curvesCheckedOf, boardOf};
 
 // The variable records by columns; of the places from `count` on, nothing counts.
@@ -73,104 +73,45 @@ impl Board {
     };
 }
 
-// The rules of a record are tested without branches, so that the compiler tests many at once.
 fn fits_number(size: u8) -> bool
     ensures { λ r. ⌜ r ≡ some (eqb size) (1 ∷ 2 ∷ 4 ∷ 8 ∷ []) ⌝ }
 {
-    (size == 1) | (size == 2) | (size == 4) | (size == 8)
+    match size {
+        1 => true,
+        2 => true,
+        4 => true,
+        8 => true,
+        _ => false,
+    }
 }
 
 fn fits_kind(size: u8, kind: u8) -> bool
     ensures { λ r. ⌜ r ≡ fitsKind size (kindOf kind) ⌝ }
 {
-    (kind == 0) | ((kind <= 4) & fits_number(size))
+    let k = Kind::of(kind);
+    match k {
+        Kind::Plain => true,
+        Kind::Number { signed: _, big: _ } => fits_number(size),
+        Kind::Unknown => false,
+    }
 }
 
 fn usable_variable(v: Variable) -> bool
     ensures { λ r. ⌜ r ≡ usableVariable v ⌝ }
 {
-    (v.writable <= 1) & (1 <= v.size) & (v.size <= 127) & fits_kind(v.size, v.kind)
-}
-
-// What tells the places of records from those past the last: 64 that are open, and 16 that are shut.
-fn window() -> [u8; 80]
-    ensures { λ r. ⌜ Window r ⌝ }
-{
-    let mut places = [255u8; 80];
-    let mut k: usize = 64;
-    while k < 80 {
-        places[k] = 0;
-        k += 1;
+    if 1 < v.writable {
+        return false;
     }
-    places
-}
-
-// A byte as it is seen through a place of the window.
-fn seen(byte: u8, place: u8) -> u16
-    ensures { λ r. ⌜ Seen byte place r ⌝ }
-{
-    (byte & place) as u16
-}
-
-// Whether the records of 16 places break no rule; a place past the last record passes.
-fn usable_piece(
-    count: usize,
-    writable: &[u8; 64],
-    sizes: &[u8; 64],
-    kinds: &[u8; 64],
-    window: &[u8; 80],
-    from: usize,
-) -> bool
-    requires { ⌜ Piece count from (now window) ⌝ }
-    ensures { λ r. ⌜ Passes (recordsOf (recordsBy count (now (writable .entry)) (now (sizes .entry)) (now (kinds .entry)))) from r ⌝ }
-{
-    let first = 64 - count + from;
-    let mut usable = true;
-    let mut i: usize = 0;
-    while i < 16 {
-        let at = from + i;
-        let v = Variable {
-            writable: writable[at],
-            size: sizes[at],
-            kind: kinds[at],
-        };
-        usable = usable & (usable_variable(v) | (window[first + i] == 0));
-        i += 1;
+    if v.size < 1 {
+        return false;
     }
-    usable
-}
-
-// The bytes of all records up to the end of 16 places, from those before them.
-fn add_bytes(count: usize, sizes: &[u8; 64], window: &[u8; 80], from: usize, before: usize) -> usize
-    requires { ⌜ Piece count from (now window) × Weighed count (now sizes) from before ⌝ }
-    ensures { λ r. ⌜ Weighed count (now (sizes .entry)) (from + 16) r ⌝ }
-{
-    let first = 64 - count + from;
-    let mut bytes: u16 = 0;
-    let mut i: usize = 0;
-    while i < 16 {
-        bytes += seen(sizes[from + i], window[first + i]);
-        i += 1;
+    if 127 < v.size {
+        return false;
     }
-    before + bytes as usize
+    fits_kind(v.size, v.kind)
 }
 
-// The marks of all records up to the end of 16 places, from those before them.
-fn add_marks(count: usize, writable: &[u8; 64], window: &[u8; 80], from: usize, before: u64) -> u64
-    requires { ⌜ (Piece count from (now window) × Typed count from (now writable)) × Marked count (now writable) from before ⌝ }
-    ensures { λ r. ⌜ Marked count (now (writable .entry)) (from + 16) r ⌝ }
-{
-    let first = 64 - count + from;
-    let mut marks: u16 = 0;
-    let mut i: usize = 0;
-    while i < 16 {
-        marks += seen(writable[from + i], window[first + i]) << i;
-        i += 1;
-    }
-    before + ((marks as u64) << from)
-}
-
-// The rules of the variable records, 16 at a time, with what their sizes and types add up to. The columns are lent, since a copy of them
+// The rules of the variable records, with what their sizes and types add up to, in one walk. The columns are lent, since a copy of them
 // for each call would be the most of what an entry needs of the stack.
 pub fn usable_records(
     count: usize,
@@ -186,17 +127,21 @@ pub fn usable_records(
     if 64 < count {
         return Checked::REFUSED;
     }
-    let window = window();
     let mut bytes: usize = 0;
     let mut marks: u64 = 0;
-    let mut from: usize = 0;
-    while from < count {
-        if !usable_piece(count, writable, sizes, kinds, &window, from) {
+    let mut i = 0;
+    while i < count {
+        let v = Variable {
+            writable: writable[i],
+            size: sizes[i],
+            kind: kinds[i],
+        };
+        if !usable_variable(v) {
             return Checked::REFUSED;
         }
-        bytes = add_bytes(count, sizes, &window, from, bytes);
-        marks = add_marks(count, writable, &window, from, marks);
-        from += 16;
+        bytes += v.size as usize;
+        marks += (v.writable as u64) << i;
+        i += 1;
     }
     if 4096 < bytes {
         return Checked::REFUSED;
