@@ -145,8 +145,10 @@ struct Run {
 // A variable of n bytes on the walk. A member lengthens the run; at any other the run is read into the reply, and a new one begins behind it.
 fn read_turn(rest: u64, n: usize, values: &[u8], reply: &mut [u8], run: Run) -> Run
     requires { ⌜ (run .at + run .bytes + n ≤ length (now values)) × (run .other + run .bytes + n ≤ length (now reply)) ⌝ }
-    ensures { λ r. let value = part (now (values .entry)) (run .at + run .bytes) n in
-        ⌜ RunOn (eqb (rest % 2) 1) n value run (runRead run (now (values .entry)) (now (reply .entry))) (run .other + run .bytes) r (runRead r (now (values .entry)) (now (reply .exit))) ⌝ }
+    ensures { λ r. let store = now (values .entry) in
+        let value = part store (run .at + run .bytes) n in
+        let before = runRead run store (now (reply .entry)) in
+        ⌜ RunOn (eqb (rest % 2) 1) n value run before (run .other + run .bytes) r (runRead r store (now (reply .exit))) ⌝ }
 {
     if rest % 2 == 1 {
         return Run {
