@@ -1,15 +1,14 @@
 -- The lowest member of a set, as the zeros behind its last digit tell it, and the set without it. Assumes nothing.
-use mathlib.Core.Path.{_≡_, refl, sym, ap, _∙_}
-use mathlib.Core.Bool.{Bool, true, false, cond}
-use mathlib.Core.List.{List, _∷_, map}
-use Prim.Native.Nat.{ℕ, zero, suc, _+_, _-_, _*_, _/_, _%_, _^_, _≤_, _<_}
+use mathlib.Core.Path.{_≡_, refl, ap, _∙_}
+use mathlib.Core.Bool.{true, false, cond}
+use mathlib.Core.List.{_∷_, map}
+use Prim.Native.Nat.{ℕ, zero, suc, _-_, _*_, _/_, _%_, _^_, _≤_, _<_}
 use native.Mathlib.Omega.{arith}
 use native.Mathlib.Nat.{mod-eq-of-lt, one-mul}
 use lib.Count.{trailingZeros, under}
 use lib.Pow.{pow-lt, pow-pos}
-use Rattle.bsmp.specs.Base.{has, bit}
-use Rattle.bsmp.specs.Board.{variable, marked}
-use Rattle.bsmp.specs.declared.VariableNumber.{VariableNumber}
+use Rattle.bsmp.specs.Base.{has}
+use Rattle.bsmp.specs.Board.{variable}
 use Rattle.sets.specs.Members.{membersBelow}
 use Rattle.sets.specs.Promises.{Lowest, StartOf}
 use Rattle.sets.proofs.Marks.{has-half, has-low, bit-same}

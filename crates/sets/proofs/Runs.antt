@@ -1,7 +1,7 @@
 -- Runs of members on a walk: a turn, and what is left to do from a variable on. Assumes nothing.
 use mathlib.Core.Path.{_≡_, refl, sym, ap, ap₂, _∙_, subst}
 use mathlib.Core.Bool.{Bool, cond}
-use mathlib.Core.List.{List, [], _∷_, _++_, map, append-assoc}
+use mathlib.Core.List.{List, [], _++_, map}
 use Prim.Native.Nat.{ℕ, _+_, _-_, _/_, _%_, _^_, _≤_, _<_}
 use native.Mathlib.Omega.{arith}
 use native.Mathlib.Nat.{add-zero, lt-of-not-le, lt-of-lt-of-le, mod-lt, div-eq-of-lt, div-div-eq-div-mul, div-lt-iff-lt-mul, pow-suc}
