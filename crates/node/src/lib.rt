@@ -3,7 +3,6 @@ use answers::Spoken;
 use bsmp::Outcome;
 use bsmp::Refusal;
 use changes::Regroup;
-use records::Board;
 use records::Groups;
 use records::Records;
 use wire::Opened;
@@ -86,7 +85,7 @@ fn close(due: bool, said: Spoken, reply: &mut [u8]) -> Outcome
 fn answer(
     due: bool,
     sizes: &[u8],
-    writable: u64,
+    types: &[u8],
     curves: &[u32],
     functions: &[u8],
     groups: &[u64],
@@ -96,9 +95,10 @@ fn answer(
     busy: u64,
     reply: &mut [u8],
 ) -> Received
-    requires { ⌜ SoundBoard (lentLayout (now sizes) writable (now curves) (now functions)) (lent (now values) (now blocks) (now groups)) ⌝ }
+    requires { let l = typedLayout (now sizes) (now types) (now curves) (now functions) in
+        ⌜ SoundBoard l (lent (now values) (now blocks) (now groups)) × (length (now types) ≤ 64) ⌝ }
     requires { ⌜ 4104 ≤ length (now reply) ⌝ }
-    ensures { λ r. let l = lentLayout (now (sizes .entry)) writable (now (curves .entry)) (now (functions .entry)) in
+    ensures { λ r. let l = typedLayout (now (sizes .entry)) (now (types .entry)) (now (curves .entry)) (now (functions .entry)) in
         let x = lent (now (values .entry)) (now (blocks .entry)) (now (groups .entry)) in
         let y = lent (now (values .exit)) (now (blocks .exit)) (now (groups .entry)) in
         let result = served l busy due (now (message .entry)) (held l x) in
@@ -107,7 +107,7 @@ fn answer(
     let served = serve::serve(
         due,
         sizes,
-        writable,
+        types,
         curves,
         functions,
         groups,
@@ -124,48 +124,45 @@ fn answer(
     Received { outcome, regroup }
 }
 
-// A packet on a usable board, over what is lent.
-fn receive(
-    sizes: &[u8],
-    writable: u64,
+// Refusals 2 to 6, in this order, or what the packet yields.
+fn open(own: u8, multicast: u8, room: usize, request: &[u8]) -> Opened
+    ensures { λ r. ⌜ r ≡ openedIn (placed own multicast) room (now (request .entry)) ⌝ }
+{
+    if !wire::usable_place(own, multicast) {
+        return Opened::Refused(Refusal::BadAddress);
+    }
+    if room < 4104 {
+        return Opened::Refused(Refusal::ReplyBufferShort);
+    }
+    wire::open(request, own, multicast)
+}
+
+// A packet that yields a message, on a usable board, lent by the fronts of its columns and places.
+fn lend(
+    due: bool,
+    records: Records,
     curves: &[u32],
     functions: &[u8],
-    groups: &[u64],
-    own: u8,
-    multicast: u8,
+    groups: Groups,
     busy: u64,
     values: &mut [u8],
     blocks: &mut [u8],
     request: &[u8],
     reply: &mut [u8],
-) -> Received
-    requires { ⌜ SoundBoard (lentLayout (now sizes) writable (now curves) (now functions)) (lent (now values) (now blocks) (now groups)) ⌝ }
-    ensures { λ r. let l = lentLayout (now (sizes .entry)) writable (now (curves .entry)) (now (functions .entry)) in
-        let x = lent (now (values .entry)) (now (blocks .entry)) (now (groups .entry)) in
-        let y = lent (now (values .exit)) (now (blocks .exit)) (now (groups .entry)) in
-        let b = now (reply .entry) in
-        ⌜ ReceivedAs l (placed own multicast) busy (now (request .entry)) x b (r .outcome) (r .regroup) (now (reply .exit)) y ⌝ }
-{
-    if !wire::usable_place(own, multicast) {
-        return refused(Refusal::BadAddress);
-    }
-    if reply.len() < 4104 {
-        return refused(Refusal::ReplyBufferShort);
-    }
-    let o = wire::open(request, own, multicast);
-    let Opened::Message { due } = o else {
-        let outcome = unopened(o);
-        let regroup = Regroup::Keep;
-        return Received { outcome, regroup };
-    };
+) -> Received {
+    let count = records.count;
+    let sizes = records.sizes;
+    let types = records.writable;
+    let made = groups.count as usize;
+    let sets = groups.sets;
     let end = request.len() - 1;
     answer(
         due,
-        sizes,
-        writable,
+        &sizes[0..count],
+        &types[0..count],
         curves,
         functions,
-        groups,
+        &sets[0..made],
         values,
         blocks,
         &request[1..end],
@@ -174,7 +171,7 @@ fn receive(
     )
 }
 
-// Refusal 1, of records by columns. That the columns are 64 long and the places of a group table 5 is promised with it, for who lends their fronts.
+// Refusal 1, of records by columns.
 fn check_board(
     records: Records,
     curves: &[u32],
@@ -182,14 +179,11 @@ fn check_board(
     groups: Groups,
     values: &[u8],
     blocks: &[u8],
-) -> Board
-    ensures { λ r. let x = lent (now (values .entry)) (now (blocks .entry)) (groupsOf groups) in
-        ⌜ BoardChecked records (now (curves .entry)) (now (functions .entry)) groups x r ⌝ }
-{
+) -> bool {
     let writable = records.writable;
     let sizes = records.sizes;
     let kinds = records.kinds;
-    records::usable_board(
+    records::quick_board(
         records.count,
         &writable,
         &sizes,
@@ -199,48 +193,6 @@ fn check_board(
         groups,
         values,
         blocks,
-    )
-}
-
-// A packet on a usable board, lent by the fronts of its columns and places.
-fn lend(
-    records: Records,
-    board: Board,
-    curves: &[u32],
-    functions: &[u8],
-    groups: Groups,
-    own: u8,
-    multicast: u8,
-    busy: u64,
-    values: &mut [u8],
-    blocks: &mut [u8],
-    request: &[u8],
-    reply: &mut [u8],
-) -> Received
-    requires { ⌜ BoardReady records (now curves) (now functions) groups (now values) (now blocks) board ⌝ }
-    ensures { λ r. let t = tableOf records (now (curves .entry)) (now (functions .entry)) in
-        let x = lent (now (values .entry)) (now (blocks .entry)) (groupsOf groups) in
-        let y = lent (now (values .exit)) (now (blocks .exit)) (groupsOf groups) in
-        let b = now (reply .entry) in
-        ⌜ CarriedAs t (placed own multicast) busy (now (request .entry)) x b (r .outcome) (r .regroup) (now (reply .exit)) y ⌝ }
-{
-    let count = records.count;
-    let sizes = records.sizes;
-    let made = groups.count as usize;
-    let sets = groups.sets;
-    receive(
-        &sizes[0..count],
-        board.writable,
-        curves,
-        functions,
-        &sets[0..made],
-        own,
-        multicast,
-        busy,
-        values,
-        blocks,
-        request,
-        reply,
     )
 }
 
@@ -264,24 +216,27 @@ fn carry(
         let b = now (reply .entry) in
         ⌜ CarriedAs t (placed own multicast) busy (now (request .entry)) x b (r .outcome) (r .regroup) (now (reply .exit)) y ⌝ }
 {
-    let board = check_board(records, curves, functions, groups, values, blocks);
-    if board.usable {
-        return lend(
-            records,
-            board,
-            curves,
-            functions,
-            groups,
-            own,
-            multicast,
-            busy,
-            values,
-            blocks,
-            request,
-            reply,
-        );
+    if !check_board(records, curves, functions, groups, values, blocks) {
+        return refused(Refusal::BoardUnusable);
     }
-    refused(Refusal::BoardUnusable)
+    let o = open(own, multicast, reply.len(), request);
+    let Opened::Message { due } = o else {
+        let outcome = unopened(o);
+        let regroup = Regroup::Keep;
+        return Received { outcome, regroup };
+    };
+    lend(
+        due,
+        records,
+        curves,
+        functions,
+        groups,
+        busy,
+        values,
+        blocks,
+        request,
+        reply,
+    )
 }
 
 // Any packet, on any board.

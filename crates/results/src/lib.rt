@@ -62,7 +62,7 @@ fn judge_result(
     let writable = records.writable;
     let sizes = records.sizes;
     let kinds = records.kinds;
-    let board = records::usable_board(
+    let usable = records::usable_board(
         count,
         &writable,
         &sizes,
@@ -73,7 +73,7 @@ fn judge_result(
         values,
         blocks,
     );
-    if !board.usable {
+    if !usable {
         return Judged::Refuse(Refusal::BoardUnusable);
     }
     if room < 4104 {
@@ -174,7 +174,7 @@ fn judge_store(
     let writable = records.writable;
     let sizes = records.sizes;
     let kinds = records.kinds;
-    let board = records::usable_board(
+    let usable = records::usable_board(
         count,
         &writable,
         &sizes,
@@ -185,7 +185,7 @@ fn judge_store(
         values,
         blocks,
     );
-    if !board.usable {
+    if !usable {
         return Judged::Refuse(Refusal::BoardUnusable);
     }
     let i = variable.0;
