@@ -96,7 +96,7 @@ fn answer(
     reply: &mut [u8],
 ) -> Received
     requires { let l = typedLayout (now sizes) (now types) (now curves) (now functions) in
-        ⌜ SoundBoard l (lent (now values) (now blocks) (now groups)) × (length (now types) ≤ 64) ⌝ }
+        ⌜ SoundBoard l (lent (now values) (now blocks) (now groups)) × SoundTypes (now types) ⌝ }
     requires { ⌜ 4104 ≤ length (now reply) ⌝ }
     ensures { λ r. let l = typedLayout (now (sizes .entry)) (now (types .entry)) (now (curves .entry)) (now (functions .entry)) in
         let x = lent (now (values .entry)) (now (blocks .entry)) (now (groups .entry)) in

@@ -13,7 +13,7 @@ ghost use Rattle.bsmp.specs.declared.Command.the-variants.{RunFunction};
 ghost use Rattle.records.specs.Lending.{lent};
 ghost use Rattle.judging.specs.Judging.{lentLayout, SoundBoard};
 ghost use Rattle.answers.specs.Answers.{Spoke};
-ghost use Rattle.serve.specs.Serve.{looksAtTypes, MarksFor, typedLayout, Judged, CarriedOut, Quiet, Unanswered, Named, Fulfilled, ServedAs};
+ghost use Rattle.serve.specs.Serve.{looksAtTypes, SoundTypes, MarksFor, typedLayout, Judged, CarriedOut, Quiet, Unanswered, Named, Fulfilled, ServedAs};
 
 // A message's command, and how it was judged.
 struct Verdict {
@@ -56,7 +56,7 @@ fn looks_at_types(command: Command) -> bool
 
 // The writable variables as marks, for a command that looks at them: to make them takes a walk over all variables.
 fn marks_for(command: Command, types: &[u8]) -> u64
-    requires { ⌜ length (now types) ≤ 64 ⌝ }
+    requires { ⌜ SoundTypes (now types) ⌝ }
     ensures { λ r. ⌜ MarksFor command (now (types .entry)) r ⌝ }
 {
     if looks_at_types(command) {
@@ -296,7 +296,7 @@ pub fn serve(
     at: usize,
 ) -> Served
     requires { let l = typedLayout (now sizes) (now types) (now curves) (now functions) in
-        ⌜ SoundBoard l (lent (now values) (now blocks) (now groups)) × (length (now types) ≤ 64) ⌝ }
+        ⌜ SoundBoard l (lent (now values) (now blocks) (now groups)) × SoundTypes (now types) ⌝ }
     requires { ⌜ at + 4099 ≤ length (now reply) ⌝ }
     ensures { λ r. let l = typedLayout (now (sizes .entry)) (now (types .entry)) (now (curves .entry)) (now (functions .entry)) in
         let x = lent (now (values .entry)) (now (blocks .entry)) (now (groups .entry)) in
