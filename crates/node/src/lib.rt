@@ -10,16 +10,17 @@ ghost use mathlib.Core.Path.{_≡_};
 ghost use Prim.Native.Nat.{_≤_};
 ghost use lib.ListN.{length};
 ghost use Rattle.bsmp.specs.Board.{layout};
-ghost use Rattle.bsmp.specs.Packet.{served, packet};
+ghost use Rattle.bsmp.specs.Packet.{message, served, packet};
 ghost use Rattle.bsmp.specs.Store.{held};
 ghost use Rattle.bsmp.specs.declared.Outcome.the-variants as O;
 ghost use Rattle.records.specs.Lending.{groupsOf, tableOf, lent};
-ghost use Rattle.judging.specs.Judging.{lentLayout, SoundBoard};
+ghost use Rattle.judging.specs.Judging.{SoundBoard};
+ghost use Rattle.serve.specs.Serve.{typedLayout, SoundTypes};
 ghost use Rattle.changes.specs.Changes.{regrouped};
 ghost use Rattle.changes.specs.declared.Regroup.the-variants.{Keep};
 ghost use Rattle.wire.specs.Opening.{placed};
 ghost use Rattle.node.specs.Promise.{tableWith, packetLeft, packetLeftOf, unopenedOf};
-ghost use Rattle.node.specs.Promise.{Closable, Closed, EndsAs, Fits, BoardChecked, BoardReady, ReceivedAs, CarriedAs};
+ghost use Rattle.node.specs.Promise.{Closable, Closed, EndsAs, Fits, BoardChecked, BoardReady, CarriedAs};
 
 // How a call ended, and the group table that it leaves.
 pub struct Done {
@@ -124,20 +125,7 @@ fn answer(
     Received { outcome, regroup }
 }
 
-// Refusals 2 to 6, in this order, or what the packet yields.
-fn open(own: u8, multicast: u8, room: usize, request: &[u8]) -> Opened
-    ensures { λ r. ⌜ r ≡ openedIn (placed own multicast) room (now (request .entry)) ⌝ }
-{
-    if !wire::usable_place(own, multicast) {
-        return Opened::Refused(Refusal::BadAddress);
-    }
-    if room < 4104 {
-        return Opened::Refused(Refusal::ReplyBufferShort);
-    }
-    wire::open(request, own, multicast)
-}
-
-// A packet that yields a message, on a usable board, lent by the fronts of its columns and places.
+// The message of a packet on a usable board, which is lent by the fronts of its columns and places.
 fn lend(
     due: bool,
     records: Records,
@@ -149,7 +137,15 @@ fn lend(
     blocks: &mut [u8],
     request: &[u8],
     reply: &mut [u8],
-) -> Received {
+) -> Received
+    requires { ⌜ BoardReady records (now curves) (now functions) groups (now values) (now blocks) ⌝ }
+    requires { ⌜ (2 ≤ length (now request)) × (4104 ≤ length (now reply)) ⌝ }
+    ensures { λ r. let l = layout (tableOf records (now (curves .entry)) (now (functions .entry))) in
+        let x = lent (now (values .entry)) (now (blocks .entry)) (groupsOf groups) in
+        let y = lent (now (values .exit)) (now (blocks .exit)) (groupsOf groups) in
+        let result = served l busy due (message (now (request .entry))) (held l x) in
+        ⌜ EndsAs result l (now (reply .entry)) (r .outcome) (r .regroup) (now (reply .exit)) y ⌝ }
+{
     let count = records.count;
     let sizes = records.sizes;
     let types = records.writable;
@@ -171,7 +167,48 @@ fn lend(
     )
 }
 
-// Refusal 1, of records by columns.
+// A packet on a usable board.
+fn receive(
+    records: Records,
+    curves: &[u32],
+    functions: &[u8],
+    groups: Groups,
+    own: u8,
+    multicast: u8,
+    busy: u64,
+    values: &mut [u8],
+    blocks: &mut [u8],
+    request: &[u8],
+    reply: &mut [u8],
+) -> Received
+    requires { ⌜ BoardReady records (now curves) (now functions) groups (now values) (now blocks) ⌝ }
+    ensures { λ r. let t = tableOf records (now (curves .entry)) (now (functions .entry)) in
+        let x = lent (now (values .entry)) (now (blocks .entry)) (groupsOf groups) in
+        let y = lent (now (values .exit)) (now (blocks .exit)) (groupsOf groups) in
+        let b = now (reply .entry) in
+        ⌜ CarriedAs t (placed own multicast) busy (now (request .entry)) x b (r .outcome) (r .regroup) (now (reply .exit)) y ⌝ }
+{
+    let o = wire::open(request, own, multicast, reply.len());
+    let Opened::Message { due } = o else {
+        let outcome = unopened(o);
+        let regroup = Regroup::Keep;
+        return Received { outcome, regroup };
+    };
+    lend(
+        due,
+        records,
+        curves,
+        functions,
+        groups,
+        busy,
+        values,
+        blocks,
+        request,
+        reply,
+    )
+}
+
+// Refusal 1, of records by columns. That the columns are 64 long and the places of a group table 5 is promised with it, for who lends their fronts.
 fn check_board(
     records: Records,
     curves: &[u32],
@@ -179,7 +216,10 @@ fn check_board(
     groups: Groups,
     values: &[u8],
     blocks: &[u8],
-) -> bool {
+) -> bool
+    ensures { λ r. let x = lent (now (values .entry)) (now (blocks .entry)) (groupsOf groups) in
+        ⌜ BoardChecked records (now (curves .entry)) (now (functions .entry)) groups x r ⌝ }
+{
     let writable = records.writable;
     let sizes = records.sizes;
     let kinds = records.kinds;
@@ -216,27 +256,22 @@ fn carry(
         let b = now (reply .entry) in
         ⌜ CarriedAs t (placed own multicast) busy (now (request .entry)) x b (r .outcome) (r .regroup) (now (reply .exit)) y ⌝ }
 {
-    if !check_board(records, curves, functions, groups, values, blocks) {
-        return refused(Refusal::BoardUnusable);
+    if check_board(records, curves, functions, groups, values, blocks) {
+        return receive(
+            records,
+            curves,
+            functions,
+            groups,
+            own,
+            multicast,
+            busy,
+            values,
+            blocks,
+            request,
+            reply,
+        );
     }
-    let o = open(own, multicast, reply.len(), request);
-    let Opened::Message { due } = o else {
-        let outcome = unopened(o);
-        let regroup = Regroup::Keep;
-        return Received { outcome, regroup };
-    };
-    lend(
-        due,
-        records,
-        curves,
-        functions,
-        groups,
-        busy,
-        values,
-        blocks,
-        request,
-        reply,
-    )
+    refused(Refusal::BoardUnusable)
 }
 
 // Any packet, on any board.
