@@ -13,7 +13,7 @@ use results::Stored;
 ghost use mathlib.Core.Path.{_≡_};
 ghost use mathlib.Core.Bool.{true, false};
 ghost use lib.IntN.{pos};
-ghost use Rattle.records.specs.Lending.{recordsOf};
+ghost use Rattle.records.specs.Lending.{recordsBy, recordsOf};
 ghost use Rattle.readings.specs.Answers.{signedReadingOf, unsignedReadingOf};
 ghost use Rattle.plain.specs.Lending.{lending};
 ghost use Rattle.plain.specs.Numbers.{plainOutcomeOf, ranFrom, storedNumber, writingNumber, plainReadingOf, signedSays, unsignedSays};
@@ -251,26 +251,90 @@ pub fn board_store(
     stored_number(stored)
 }
 
-pub fn read_signed(records: Records, variable: usize, bytes: &[u8]) -> PlainSignedReading
-    ensures { λ r. ⌜ signedSays r ≡ readingOf (recordsOf records) variable true (now (bytes .entry)) ⌝ }
+pub fn read_signed(
+    count: usize,
+    writable: &[u8; 64],
+    sizes: &[u8; 64],
+    kinds: &[u8; 64],
+    variable: usize,
+    bytes: &[u8],
+) -> PlainSignedReading
+    ensures { λ r. let records = recordsBy count (now (writable .entry)) (now (sizes .entry)) (now (kinds .entry)) in
+        ⌜ signedSays r ≡ readingOf (recordsOf records) variable true (now (bytes .entry)) ⌝ }
 {
-    signed_of(readings::read_signed(records, VariableNumber(variable), bytes))
+    signed_of(readings::read_signed(
+        count,
+        writable,
+        sizes,
+        kinds,
+        VariableNumber(variable),
+        bytes,
+    ))
 }
 
-pub fn read_unsigned(records: Records, variable: usize, bytes: &[u8]) -> PlainUnsignedReading
-    ensures { λ r. ⌜ unsignedSays r ≡ readingOf (recordsOf records) variable false (now (bytes .entry)) ⌝ }
+pub fn read_unsigned(
+    count: usize,
+    writable: &[u8; 64],
+    sizes: &[u8; 64],
+    kinds: &[u8; 64],
+    variable: usize,
+    bytes: &[u8],
+) -> PlainUnsignedReading
+    ensures { λ r. let records = recordsBy count (now (writable .entry)) (now (sizes .entry)) (now (kinds .entry)) in
+        ⌜ unsignedSays r ≡ readingOf (recordsOf records) variable false (now (bytes .entry)) ⌝ }
 {
-    unsigned_of(readings::read_unsigned(records, VariableNumber(variable), bytes))
+    unsigned_of(readings::read_unsigned(
+        count,
+        writable,
+        sizes,
+        kinds,
+        VariableNumber(variable),
+        bytes,
+    ))
 }
 
-pub fn write_signed(records: Records, variable: usize, number: i64, buffer: &mut [u8]) -> u8
-    ensures { λ r. ⌜ plainBytesLeft r (now (buffer .exit)) ≡ writingOf (recordsOf records) variable true number (now (buffer .entry)) ⌝ }
+pub fn write_signed(
+    count: usize,
+    writable: &[u8; 64],
+    sizes: &[u8; 64],
+    kinds: &[u8; 64],
+    variable: usize,
+    number: i64,
+    buffer: &mut [u8],
+) -> u8
+    ensures { λ r. let records = recordsBy count (now (writable .entry)) (now (sizes .entry)) (now (kinds .entry)) in
+        ⌜ plainBytesLeft r (now (buffer .exit)) ≡ writingOf (recordsOf records) variable true number (now (buffer .entry)) ⌝ }
 {
-    writing_number(readings::write_signed(records, VariableNumber(variable), number, buffer))
+    writing_number(readings::write_signed(
+        count,
+        writable,
+        sizes,
+        kinds,
+        VariableNumber(variable),
+        number,
+        buffer,
+    ))
 }
 
-pub fn write_unsigned(records: Records, variable: usize, number: u64, buffer: &mut [u8]) -> u8
-    ensures { λ r. ⌜ plainBytesLeft r (now (buffer .exit)) ≡ writingOf (recordsOf records) variable false (pos number) (now (buffer .entry)) ⌝ }
+pub fn write_unsigned(
+    count: usize,
+    writable: &[u8; 64],
+    sizes: &[u8; 64],
+    kinds: &[u8; 64],
+    variable: usize,
+    number: u64,
+    buffer: &mut [u8],
+) -> u8
+    ensures { λ r. let records = recordsBy count (now (writable .entry)) (now (sizes .entry)) (now (kinds .entry)) in
+        ⌜ plainBytesLeft r (now (buffer .exit)) ≡ writingOf (recordsOf records) variable false (pos number) (now (buffer .entry)) ⌝ }
 {
-    writing_number(readings::write_unsigned(records, VariableNumber(variable), number, buffer))
+    writing_number(readings::write_unsigned(
+        count,
+        writable,
+        sizes,
+        kinds,
+        VariableNumber(variable),
+        number,
+        buffer,
+    ))
 }

@@ -1,6 +1,6 @@
 -- `judge` meets its contract: each return is one case of `judgedOf`. Assumes nothing.
 use borrow.Author.Needs.{needs}
-use Rattle.readings.proofs.Tests.{judge-cases, place-within}
+use Rattle.readings.proofs.Tests.{judge-cases, place-within, size-fits}
 use Rattle.readings.proofs.judge.Statement.{statement}
 use Rattle.readings.proofs.judge.Tie as tie
 
@@ -15,7 +15,7 @@ judge-spec =
     (λ c κs. search needs)
     (λ c κs. search needs)
     (λ c. search (place-within, needs))
-    (λ c. let k = c .before .before .before .before .before .before .before .before .before .before .before .before .good .0 .1 .1 .1 in search (k .0 .1 .1, k .1 .0 .1 .1, k .1 .1 .0 .1 .1, needs))
+    (λ c. search size-fits)
     (λ c. search (judge-cases, needs))
     (λ c. search (judge-cases, needs))
     (λ c κs. search needs)
