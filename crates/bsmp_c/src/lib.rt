@@ -124,7 +124,14 @@ pub extern "C" fn bsmp_read_signed(
     ensures { λ r. ⌜ signedSays r ≡ readingOf (now (variables .entry)) variable true (now (bytes .entry)) ⌝ }
 {
     let records = columns::columns_of(variables);
-    plain::read_signed(records, variable, bytes)
+    plain::read_signed(
+        records.count,
+        &records.writable,
+        &records.sizes,
+        &records.kinds,
+        variable,
+        bytes,
+    )
 }
 
 #[no_mangle]
@@ -136,7 +143,14 @@ pub extern "C" fn bsmp_read_unsigned(
     ensures { λ r. ⌜ unsignedSays r ≡ readingOf (now (variables .entry)) variable false (now (bytes .entry)) ⌝ }
 {
     let records = columns::columns_of(variables);
-    plain::read_unsigned(records, variable, bytes)
+    plain::read_unsigned(
+        records.count,
+        &records.writable,
+        &records.sizes,
+        &records.kinds,
+        variable,
+        bytes,
+    )
 }
 
 #[no_mangle]
@@ -149,7 +163,15 @@ pub extern "C" fn bsmp_write_signed(
     ensures { λ r. ⌜ plainBytesLeft r (now (buffer .exit)) ≡ writingOf (now (variables .entry)) variable true number (now (buffer .entry)) ⌝ }
 {
     let records = columns::columns_of(variables);
-    plain::write_signed(records, variable, number, buffer)
+    plain::write_signed(
+        records.count,
+        &records.writable,
+        &records.sizes,
+        &records.kinds,
+        variable,
+        number,
+        buffer,
+    )
 }
 
 #[no_mangle]
@@ -162,5 +184,13 @@ pub extern "C" fn bsmp_write_unsigned(
     ensures { λ r. ⌜ plainBytesLeft r (now (buffer .exit)) ≡ writingOf (now (variables .entry)) variable false (pos number) (now (buffer .entry)) ⌝ }
 {
     let records = columns::columns_of(variables);
-    plain::write_unsigned(records, variable, number, buffer)
+    plain::write_unsigned(
+        records.count,
+        &records.writable,
+        &records.sizes,
+        &records.kinds,
+        variable,
+        number,
+        buffer,
+    )
 }
