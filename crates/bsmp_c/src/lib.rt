@@ -33,7 +33,10 @@ pub extern "C" fn bsmp_packet(
     let records = columns::columns_of(variables);
     let made = *groups;
     let done = plain::packet(
-        records,
+        records.count,
+        &records.writable,
+        &records.sizes,
+        &records.kinds,
         curves,
         functions,
         made,
@@ -71,7 +74,10 @@ pub extern "C" fn bsmp_function_result(
     let records = columns::columns_of(variables);
     let made = *groups;
     plain::function_result(
-        records,
+        records.count,
+        &records.writable,
+        &records.sizes,
+        &records.kinds,
         curves,
         functions,
         made,
@@ -104,7 +110,10 @@ pub extern "C" fn bsmp_board_store(
     let records = columns::columns_of(variables);
     let made = *groups;
     plain::board_store(
-        records,
+        records.count,
+        &records.writable,
+        &records.sizes,
+        &records.kinds,
         curves,
         functions,
         made,

@@ -156,7 +156,10 @@ fn ran_of(failed: bool, error: u8) -> Ran
 }
 
 pub fn packet(
-    records: Records,
+    count: usize,
+    writable: &[u8; 64],
+    sizes: &[u8; 64],
+    kinds: &[u8; 64],
     curves: &[u32],
     functions: &[u8],
     groups: Groups,
@@ -168,12 +171,21 @@ pub fn packet(
     request: &[u8],
     reply: &mut [u8],
 ) -> PlainDone
-    ensures { λ r. let board = lending (recordsOf records) (now (curves .entry)) (now (functions .entry)) groups (now (values .entry)) (now (blocks .entry)) in
+    ensures { λ r. let records = recordsBy count (now (writable .entry)) (now (sizes .entry)) (now (kinds .entry)) in
+        let board = lending (recordsOf records) (now (curves .entry)) (now (functions .entry)) groups (now (values .entry)) (now (blocks .entry)) in
         ⌜ plainPacketLeft (r .outcome) (r .groups) (now (reply .exit)) (now (values .exit)) (now (blocks .exit))
         ≡ packetOf board own multicast busy (now (request .entry)) (now (reply .entry)) ⌝ }
 {
+    let writable = *writable;
+    let sizes = *sizes;
+    let kinds = *kinds;
     let done = node::packet(
-        records,
+        Records {
+            count,
+            writable,
+            sizes,
+            kinds,
+        },
         curves,
         functions,
         groups,
@@ -192,7 +204,10 @@ pub fn packet(
 }
 
 pub fn function_result(
-    records: Records,
+    count: usize,
+    writable: &[u8; 64],
+    sizes: &[u8; 64],
+    kinds: &[u8; 64],
     curves: &[u32],
     functions: &[u8],
     groups: Groups,
@@ -205,12 +220,16 @@ pub fn function_result(
     output: &[u8],
     reply: &mut [u8],
 ) -> PlainOutcome
-    ensures { λ r. let board = lending (recordsOf records) (now (curves .entry)) (now (functions .entry)) groups (now (values .entry)) (now (blocks .entry)) in
+    ensures { λ r. let records = recordsBy count (now (writable .entry)) (now (sizes .entry)) (now (kinds .entry)) in
+        let board = lending (recordsOf records) (now (curves .entry)) (now (functions .entry)) groups (now (values .entry)) (now (blocks .entry)) in
         ⌜ plainResultLeft r (now (reply .exit)) ≡ resultOf board function due failed error (now (output .entry)) (now (reply .entry)) ⌝ }
 {
     let ran = ran_of(failed, error);
     let outcome = results::function_result(
-        records,
+        count,
+        writable,
+        sizes,
+        kinds,
         curves,
         functions,
         groups,
@@ -226,7 +245,10 @@ pub fn function_result(
 }
 
 pub fn board_store(
-    records: Records,
+    count: usize,
+    writable: &[u8; 64],
+    sizes: &[u8; 64],
+    kinds: &[u8; 64],
     curves: &[u32],
     functions: &[u8],
     groups: Groups,
@@ -235,11 +257,15 @@ pub fn board_store(
     variable: usize,
     bytes: &[u8],
 ) -> u8
-    ensures { λ r. let board = lending (recordsOf records) (now (curves .entry)) (now (functions .entry)) groups (now (values .entry)) (now (blocks .entry)) in
+    ensures { λ r. let records = recordsBy count (now (writable .entry)) (now (sizes .entry)) (now (kinds .entry)) in
+        let board = lending (recordsOf records) (now (curves .entry)) (now (functions .entry)) groups (now (values .entry)) (now (blocks .entry)) in
         ⌜ plainBytesLeft r (now (values .exit)) ≡ storeOf board variable (now (bytes .entry)) ⌝ }
 {
     let stored = results::board_store(
-        records,
+        count,
+        writable,
+        sizes,
+        kinds,
         curves,
         functions,
         groups,

@@ -1,11 +1,9 @@
 -- The tests that all readings have: as the code meets them, and what their passing tells. Assumes nothing.
-use mathlib.Core.Path.{_≡_, refl, sym, ap, subst, _∙_}
+use mathlib.Core.Path.{_≡_, refl, sym, ap, _∙_}
 use mathlib.Core.Bool.{Bool, true, false, not, cond, _&&_, true≢false}
 use mathlib.Core.List.{List, [], _∷_}
 use Prim.Native.Nat.{ℕ, _≤_, _<_}
 use native.Mathlib.Omega.{arith}
-use mir.Syntax.{w64}
-use mir.Val.{Fits}
 use borrow.Author.Tests.{lt-ltb, le-ltb, eq-eqb, ne-eqb, ltb-true, eqb-true, not-false}
 use lib.Dec.{eqb}
 use lib.ListN.{getD}
@@ -22,12 +20,11 @@ use Rattle.bsmp.specs.declared.Refusal.the-variants.{BoardUnusable, NoSuchVaria
 use Rattle.bsmp.proofs.Bools.{and-true, all-at}
 use Rattle.bsmp.proofs.Lists.{every-at}
 use Rattle.bsmp.proofs.Chain.{clear, clear-at, first-case}
-use Rattle.records.specs.Lending.{recordAt, recordsBy, recordsOf}
+use Rattle.records.specs.Lending.{recordsOf}
 use Rattle.records.specs.Checks.{checkedOf}
 use Rattle.records.specs.declared.Records.{Records}
 use Rattle.records.specs.declared.Checked.{Checked}
-use Rattle.records.proofs.Lending.{noVariable, record-count, record-at}
-use Rattle.records.proofs.Checks.{variable-rules}
+use Rattle.records.proofs.Lending.{record-count, record-at}
 use Rattle.records.proofs.Sound.{variables-most}
 use Rattle.records.proofs.Whole.{records-usable}
 use Rattle.numbers.specs.Size.{isSize}
@@ -50,8 +47,8 @@ module _ (r : Records) (i : VariableNumber) (s : Bool) (n : ℕ) (c : Checked) (
     judge-unknown h = rw (usable, ← record-count r, le-ltb _ _ h)
 
     module _ (h : i .0 < r .count) where
-      pub place-within : i .0 < 64
-      place-within = omega (arith, record-count r, variables-most (recordsOf r) usable)
+      pub place-within : (m : ℕ) → m ≡ 64 → i .0 < m
+      place-within m l = omega (arith, record-count r, variables-most (recordsOf r) usable)
 
       module _ (k : Kind) (w : Bool) (q : k ≡ kindOf (getD (r .kinds) (i .0) 0)) (p : w ≡ wrongKind s k) where
         known : judgedOf (recordsOf r) i s n ≡ cond w (Refused WrongKind) (cond (not (eqb n (getD (r .sizes) (i .0) 0))) (Refused WrongByteCount) (Good (isBig k)))
@@ -66,16 +63,6 @@ module _ (r : Records) (i : VariableNumber) (s : Bool) (n : ℕ) (c : Checked) (
 
         pub judge-good : (b : Bool) → w ≡ false → n ≡ getD (r .sizes) (i .0) 0 → b ≡ isBig k → Good b ≡ judgedOf (recordsOf r) i s n
         judge-good b t d o = rw (known, t, eq-eqb _ _ d, o)
-
--- nothing is known of a lent byte but by the rules
-pub size-fits : (count : ℕ) (ws ss ks : List ℕ) (i : ℕ) (c : Checked) → c ≡ checkedOf (recordsOf (recordsBy count ws ss ks)) → not (c .usable) ≡ false → i < count → Fits w64 (getD ss i 0)
-unfolding usableVariables
-size-fits count ws ss ks i c e u h =
-    let r : Records = recordsBy count ws ss ks in
-    let usable : usableVariables (recordsOf r) ≡ true = sym (records-usable (recordsOf r) c e) ∙ not-false _ u in
-    let at : usableVariable (getD (recordsOf r) i noVariable) ≡ true = every-at usableVariable (recordsOf r) i noVariable (all-at (variableRules (recordsOf r)) usable 1) (omega (arith, h, record-count r)) in
-    let rules = variable-rules (recordAt r i) (subst (λ (v : Variable). usableVariable v ≡ true) (sym (record-at r i h)) at) in
-    record { fits = omega (arith, rules .1 .1) }
 
 pub ruleset judge-cases = (judge-unusable, judge-unknown, judge-kind, judge-count, judge-good)
 

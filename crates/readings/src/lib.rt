@@ -85,6 +85,7 @@ fn judge(
     }
     let kind = Kind::of(kinds[at]);
     let wrong = wrong_kind(signed, kind);
+    let sizes = &sizes[..];
     let size = sizes[at] as usize;
     if wrong {
         return Judged::Refused(Refusal::WrongKind);
