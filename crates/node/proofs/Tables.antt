@@ -94,7 +94,7 @@ module _ (r : Regroup) (g : Groups) (five : length (g .sets) ≡ 5) where
 
 -- a usable board ---------------------------------------------------------------------------------------------------------------
 module _ (r : Records) (cs fs : List ℕ) (g : Groups) (vs bs : List ℕ) (c : Board)
-    (checked : BoardChecked r cs fs g (lent vs bs (groupsOf g)) c) (u : c .usable ≡ true) where
+    (checked : BoardChecked r cs fs g (lent vs bs (groupsOf g)) c) (u : c .usable ≡ true) (whole : length (r .sizes) ≡ 64) where
   abbrev T : Table
   T = tableOf r cs fs
 
@@ -114,7 +114,7 @@ module _ (r : Records) (cs fs : List ℕ) (g : Groups) (vs bs : List ℕ) (c : B
   front n xs = let e : n - 0 ≡ n = omega arith in ap (λ k. take k xs) e
 
   sizes-are : sizesOf (recordsOf r) ≡ frontOf (r .count) (r .sizes)
-  sizes-are = sizes-lent r (omega (arith, few-records, checked .sizes)) ∙ sym (front (r .count) (r .sizes))
+  sizes-are = sizes-lent r (omega (arith, few-records, whole)) ∙ sym (front (r .count) (r .sizes))
 
   groups-same : frontOf (g .count) (g .sets) ≡ groupsOf g
   groups-same = front (g .count) (g .sets) ∙ sym (groups-lent g (omega (arith, few-groups, checked .sets)))
@@ -133,17 +133,17 @@ module _ (r : Records) (cs fs : List ℕ) (g : Groups) (vs bs : List ℕ) (c : B
   })
     where
       sizes-count : length (sizesOf (recordsOf r)) ≡ r .count
-      sizes-count = ap length sizes-are ∙ ap length (front (r .count) (r .sizes)) ∙ simp length-take (omega (arith, few-records, checked .sizes))
+      sizes-count = ap length sizes-are ∙ ap length (front (r .count) (r .sizes)) ∙ simp length-take (omega (arith, few-records, whole))
 
   -- all that the work of a packet leans on
   pub board-ready : BoardReady r cs fs g vs bs c
   board-ready = record {
     usable-is = is-usable;
-    sizes-inside = omega (arith, few-records, checked .sizes);
+    sizes-inside = omega (arith, few-records, whole);
     sets-inside = omega (arith, few-groups, checked .sets);
     layout-is =
         ap (λ ns. lentLayout ns (c .writable) cs fs) (front (r .count) (r .sizes))
-        ∙ layout-lent r cs fs (c .writable) (omega (arith, few-records, checked .sizes)) (board-writable T _ c (checked .board) u);
+        ∙ layout-lent r cs fs (c .writable) (omega (arith, few-records, whole)) (board-writable T _ c (checked .board) u);
     groups-are = groups-same;
     sound = sound-board;
   }

@@ -5,7 +5,6 @@ use bsmp::Refusal;
 use changes::Regroup;
 use records::Board;
 use records::Groups;
-use records::Records;
 use wire::Opened;
 ghost use mathlib.Core.Path.{_≡_};
 ghost use Prim.Native.Nat.{_≤_};
@@ -14,7 +13,7 @@ ghost use Rattle.bsmp.specs.Board.{layout};
 ghost use Rattle.bsmp.specs.Packet.{served, packet};
 ghost use Rattle.bsmp.specs.Store.{held};
 ghost use Rattle.bsmp.specs.declared.Outcome.the-variants as O;
-ghost use Rattle.records.specs.Lending.{groupsOf, tableOf, lent};
+ghost use Rattle.records.specs.Lending.{recordsBy, groupsOf, tableOf, lent};
 ghost use Rattle.judging.specs.Judging.{lentLayout, SoundBoard};
 ghost use Rattle.changes.specs.Changes.{regrouped};
 ghost use Rattle.changes.specs.declared.Regroup.the-variants.{Keep};
@@ -174,26 +173,27 @@ fn receive(
     )
 }
 
-// Refusal 1, of records by columns. That the columns are 64 long and the places of a group table 5 is promised with it, for who lends their fronts.
+// Refusal 1, of records by columns. That the places of a group table are 5 is promised with it, for who lends their front.
 fn check_board(
-    records: Records,
+    count: usize,
+    writable: &[u8; 64],
+    sizes: &[u8; 64],
+    kinds: &[u8; 64],
     curves: &[u32],
     functions: &[u8],
     groups: Groups,
     values: &[u8],
     blocks: &[u8],
 ) -> Board
-    ensures { λ r. let x = lent (now (values .entry)) (now (blocks .entry)) (groupsOf groups) in
+    ensures { λ r. let records = recordsBy count (now (writable .entry)) (now (sizes .entry)) (now (kinds .entry)) in
+        let x = lent (now (values .entry)) (now (blocks .entry)) (groupsOf groups) in
         ⌜ BoardChecked records (now (curves .entry)) (now (functions .entry)) groups x r ⌝ }
 {
-    let writable = records.writable;
-    let sizes = records.sizes;
-    let kinds = records.kinds;
     records::usable_board(
-        records.count,
-        &writable,
-        &sizes,
-        &kinds,
+        count,
+        writable,
+        sizes,
+        kinds,
         curves,
         functions,
         groups,
@@ -202,9 +202,12 @@ fn check_board(
     )
 }
 
-// A packet on a usable board, lent by the fronts of its columns and places.
+// A packet on a usable board, lent by the fronts of its columns and places. The sizes come as a slice, since no front is lent of an array that was lent.
 fn lend(
-    records: Records,
+    count: usize,
+    writable: &[u8; 64],
+    sizes: &[u8],
+    kinds: &[u8; 64],
     board: Board,
     curves: &[u32],
     functions: &[u8],
@@ -217,15 +220,15 @@ fn lend(
     request: &[u8],
     reply: &mut [u8],
 ) -> Received
-    requires { ⌜ BoardReady records (now curves) (now functions) groups (now values) (now blocks) board ⌝ }
-    ensures { λ r. let t = tableOf records (now (curves .entry)) (now (functions .entry)) in
+    requires { let records = recordsBy count (now writable) (now sizes) (now kinds) in
+        ⌜ BoardReady records (now curves) (now functions) groups (now values) (now blocks) board ⌝ }
+    ensures { λ r. let records = recordsBy count (now (writable .entry)) (now (sizes .entry)) (now (kinds .entry)) in
+        let t = tableOf records (now (curves .entry)) (now (functions .entry)) in
         let x = lent (now (values .entry)) (now (blocks .entry)) (groupsOf groups) in
         let y = lent (now (values .exit)) (now (blocks .exit)) (groupsOf groups) in
         let b = now (reply .entry) in
         ⌜ CarriedAs t (placed own multicast) busy (now (request .entry)) x b (r .outcome) (r .regroup) (now (reply .exit)) y ⌝ }
 {
-    let count = records.count;
-    let sizes = records.sizes;
     let made = groups.count as usize;
     let sets = groups.sets;
     receive(
@@ -246,7 +249,10 @@ fn lend(
 
 // Any packet, on any board. What it makes of the made groups is told and not yet done, so that the table goes through no more hands.
 fn carry(
-    records: Records,
+    count: usize,
+    writable: &[u8; 64],
+    sizes: &[u8; 64],
+    kinds: &[u8; 64],
     curves: &[u32],
     functions: &[u8],
     groups: Groups,
@@ -258,16 +264,30 @@ fn carry(
     request: &[u8],
     reply: &mut [u8],
 ) -> Received
-    ensures { λ r. let t = tableOf records (now (curves .entry)) (now (functions .entry)) in
+    ensures { λ r. let records = recordsBy count (now (writable .entry)) (now (sizes .entry)) (now (kinds .entry)) in
+        let t = tableOf records (now (curves .entry)) (now (functions .entry)) in
         let x = lent (now (values .entry)) (now (blocks .entry)) (groupsOf groups) in
         let y = lent (now (values .exit)) (now (blocks .exit)) (groupsOf groups) in
         let b = now (reply .entry) in
         ⌜ CarriedAs t (placed own multicast) busy (now (request .entry)) x b (r .outcome) (r .regroup) (now (reply .exit)) y ⌝ }
 {
-    let board = check_board(records, curves, functions, groups, values, blocks);
+    let board = check_board(
+        count,
+        writable,
+        sizes,
+        kinds,
+        curves,
+        functions,
+        groups,
+        values,
+        blocks,
+    );
     if board.usable {
         return lend(
-            records,
+            count,
+            writable,
+            &sizes[..],
+            kinds,
             board,
             curves,
             functions,
@@ -286,7 +306,10 @@ fn carry(
 
 // Any packet, on any board.
 pub fn packet(
-    records: Records,
+    count: usize,
+    writable: &[u8; 64],
+    sizes: &[u8; 64],
+    kinds: &[u8; 64],
     curves: &[u32],
     functions: &[u8],
     groups: Groups,
@@ -298,13 +321,17 @@ pub fn packet(
     request: &[u8],
     reply: &mut [u8],
 ) -> Done
-    ensures { λ r. let t = tableOf records (now (curves .entry)) (now (functions .entry)) in
+    ensures { λ r. let records = recordsBy count (now (writable .entry)) (now (sizes .entry)) (now (kinds .entry)) in
+        let t = tableOf records (now (curves .entry)) (now (functions .entry)) in
         let s = held (layout t) (lent (now (values .entry)) (now (blocks .entry)) (groupsOf groups)) in
         let result = packet t (placed own multicast) busy (length (now (reply .entry))) (now (request .entry)) s in
         ⌜ packetLeft r (now (reply .exit)) (now (values .exit)) (now (blocks .exit)) ≡ packetLeftOf result (now (reply .entry)) groups ⌝ }
 {
     let h = carry(
-        records,
+        count,
+        writable,
+        sizes,
+        kinds,
         curves,
         functions,
         groups,

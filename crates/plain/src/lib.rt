@@ -7,7 +7,6 @@ use readings::SignedReading;
 use readings::UnsignedReading;
 use readings::Writing;
 use records::Groups;
-use records::Records;
 use results::Ran;
 use results::Stored;
 ghost use mathlib.Core.Path.{_≡_};
@@ -176,16 +175,11 @@ pub fn packet(
         ⌜ plainPacketLeft (r .outcome) (r .groups) (now (reply .exit)) (now (values .exit)) (now (blocks .exit))
         ≡ packetOf board own multicast busy (now (request .entry)) (now (reply .entry)) ⌝ }
 {
-    let writable = *writable;
-    let sizes = *sizes;
-    let kinds = *kinds;
     let done = node::packet(
-        Records {
-            count,
-            writable,
-            sizes,
-            kinds,
-        },
+        count,
+        writable,
+        sizes,
+        kinds,
         curves,
         functions,
         groups,
