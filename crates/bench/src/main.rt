@@ -1,4 +1,5 @@
 // The bench: board A over standard input. Records of a two-byte length and a packet; one line for each.
+use node::Done;
 use records::Groups;
 use records::Records;
 ghost use mathlib.Core.Path.{_≡_};
@@ -31,6 +32,38 @@ struct Turned {
     groups: Groups,
 }
 
+// One packet on board A, which is lent to the node.
+fn answered(
+    records: Records,
+    groups: Groups,
+    packet: &[u8],
+    values: &mut [u8],
+    blocks: &mut [u8],
+    reply: &mut [u8],
+) -> Done {
+    let writable = records.writable;
+    let sizes = records.sizes;
+    let kinds = records.kinds;
+    let curves = [1u32, 4, 2];
+    let functions = [1u8, 2];
+    node::packet(
+        records.count,
+        &writable,
+        &sizes,
+        &kinds,
+        &curves,
+        &functions,
+        groups,
+        5,
+        0x81,
+        0,
+        values,
+        blocks,
+        packet,
+        reply,
+    )
+}
+
 // One packet's line at the start of out.
 fn one(
     number: u64,
@@ -45,21 +78,7 @@ fn one(
     requires { ⌜ (length (now reply) ≡ 4104) × (9000 ≤ length (now out)) ⌝ }
     ensures { λ r. ⌜ r .size ≤ 9000 ⌝ }
 {
-    let curves = [1u32, 4, 2];
-    let functions = [1u8, 2];
-    let d = node::packet(
-        records,
-        &curves,
-        &functions,
-        groups,
-        5,
-        0x81,
-        0,
-        values,
-        blocks,
-        packet,
-        reply,
-    );
+    let d = answered(records, groups, packet, values, blocks, reply);
     let o = d.outcome;
     let a = bench_line::put_line(number, o, packet, reply, out);
     let g = d.groups;

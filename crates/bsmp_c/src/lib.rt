@@ -33,7 +33,10 @@ pub extern "C" fn bsmp_packet(
     let records = columns::columns_of(variables);
     let made = *groups;
     let done = plain::packet(
-        records,
+        records.count,
+        &records.writable,
+        &records.sizes,
+        &records.kinds,
         curves,
         functions,
         made,
@@ -71,7 +74,10 @@ pub extern "C" fn bsmp_function_result(
     let records = columns::columns_of(variables);
     let made = *groups;
     plain::function_result(
-        records,
+        records.count,
+        &records.writable,
+        &records.sizes,
+        &records.kinds,
         curves,
         functions,
         made,
@@ -104,7 +110,10 @@ pub extern "C" fn bsmp_board_store(
     let records = columns::columns_of(variables);
     let made = *groups;
     plain::board_store(
-        records,
+        records.count,
+        &records.writable,
+        &records.sizes,
+        &records.kinds,
         curves,
         functions,
         made,
@@ -124,7 +133,14 @@ pub extern "C" fn bsmp_read_signed(
     ensures { λ r. ⌜ signedSays r ≡ readingOf (now (variables .entry)) variable true (now (bytes .entry)) ⌝ }
 {
     let records = columns::columns_of(variables);
-    plain::read_signed(records, variable, bytes)
+    plain::read_signed(
+        records.count,
+        &records.writable,
+        &records.sizes,
+        &records.kinds,
+        variable,
+        bytes,
+    )
 }
 
 #[no_mangle]
@@ -136,7 +152,14 @@ pub extern "C" fn bsmp_read_unsigned(
     ensures { λ r. ⌜ unsignedSays r ≡ readingOf (now (variables .entry)) variable false (now (bytes .entry)) ⌝ }
 {
     let records = columns::columns_of(variables);
-    plain::read_unsigned(records, variable, bytes)
+    plain::read_unsigned(
+        records.count,
+        &records.writable,
+        &records.sizes,
+        &records.kinds,
+        variable,
+        bytes,
+    )
 }
 
 #[no_mangle]
@@ -149,7 +172,15 @@ pub extern "C" fn bsmp_write_signed(
     ensures { λ r. ⌜ plainBytesLeft r (now (buffer .exit)) ≡ writingOf (now (variables .entry)) variable true number (now (buffer .entry)) ⌝ }
 {
     let records = columns::columns_of(variables);
-    plain::write_signed(records, variable, number, buffer)
+    plain::write_signed(
+        records.count,
+        &records.writable,
+        &records.sizes,
+        &records.kinds,
+        variable,
+        number,
+        buffer,
+    )
 }
 
 #[no_mangle]
@@ -162,5 +193,13 @@ pub extern "C" fn bsmp_write_unsigned(
     ensures { λ r. ⌜ plainBytesLeft r (now (buffer .exit)) ≡ writingOf (now (variables .entry)) variable false (pos number) (now (buffer .entry)) ⌝ }
 {
     let records = columns::columns_of(variables);
-    plain::write_unsigned(records, variable, number, buffer)
+    plain::write_unsigned(
+        records.count,
+        &records.writable,
+        &records.sizes,
+        &records.kinds,
+        variable,
+        number,
+        buffer,
+    )
 }

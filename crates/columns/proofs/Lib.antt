@@ -1,3 +1,4 @@
 pub mod Columns
+pub mod Table
 pub mod Walk
 pub mod Byte

@@ -14,7 +14,7 @@ use Rattle.bsmp.specs.declared.Variable.{Variable}
 use Rattle.bsmp.proofs.Bools.{and-true}
 use Rattle.lists.specs.Put.{put}
 use Rattle.lists.proofs.Put.{set-put}
-use Rattle.records.specs.Lending.{recordsOf, groupsOf, tableOf, lent}
+use Rattle.records.specs.Lending.{recordsBy, recordsOf, groupsOf, tableOf, lent}
 use Rattle.records.specs.declared.Records.{Records}
 use Rattle.records.specs.declared.Groups.{Groups}
 use Rattle.records.proofs.Lending.{record-count, sizes-lent, types-lent, group-count, group-at, groups-lent}
@@ -102,73 +102,76 @@ types-pass (v ∷ vs) h =
     let t : isType (v .writable) ≡ true = and-true _ _ (and-true _ _ (w .0) .0) .0 in
     rw (t, types-pass vs (w .1))
 
-module _ (r : Records) (cs fs : List ℕ) (g : Groups) (vs bs : List ℕ) (u : Bool)
-    (checked : BoardChecked r cs fs g (lent vs bs (groupsOf g)) u) (v : u ≡ true) where
+module _ (count : ℕ) (ws ss ks cs fs : List ℕ) (g : Groups) (vs bs : List ℕ) (u : Bool) where
+  abbrev r : Records
+  r = recordsBy count ws ss ks
+
   abbrev T : Table
   T = tableOf r cs fs
 
-  is-usable : usable T (held (layout T) (lent vs bs (groupsOf g))) ≡ true
-  is-usable = sym (checked .board) ∙ v
+  module _ (checked : BoardChecked r cs fs g (lent vs bs (groupsOf g)) u) (v : u ≡ true) (types : length ws ≡ 64) (sizes : length ss ≡ 64) where
+    is-usable : usable T (held (layout T) (lent vs bs (groupsOf g))) ≡ true
+    is-usable = sym (checked .board) ∙ v
 
-  sound : R.Sound T (lent vs bs (groupsOf g))
-  sound = R.usable-sound T (lent vs bs (groupsOf g)) is-usable
+    sound : R.Sound T (lent vs bs (groupsOf g))
+    sound = R.usable-sound T (lent vs bs (groupsOf g)) is-usable
 
-  few-records : r .count ≤ 64
-  few-records = omega (arith, record-count r, R.variables-most (recordsOf r) (sound .variables))
+    few-records : r .count ≤ 64
+    few-records = omega (arith, record-count r, R.variables-most (recordsOf r) (sound .variables))
 
-  few-groups : g .count ≤ 5
-  few-groups = omega (arith, group-count g, R.groups-most (length (recordsOf r)) (groupsOf g) (sound .groups))
+    few-groups : g .count ≤ 5
+    few-groups = omega (arith, group-count g, R.groups-most (length (recordsOf r)) (groupsOf g) (sound .groups))
 
-  front : (n : ℕ) (xs : List ℕ) → frontOf n xs ≡ take n xs
-  front n xs = let e : n - 0 ≡ n = omega arith in ap (λ k. take k xs) e
+    front : (n : ℕ) (xs : List ℕ) → frontOf n xs ≡ take n xs
+    front n xs = let e : n - 0 ≡ n = omega arith in ap (λ k. take k xs) e
 
-  within-sizes : r .count ≤ length (r .sizes)
-  within-sizes = omega (arith, few-records, checked .sizes)
+    within-sizes : r .count ≤ length (r .sizes)
+    within-sizes = omega (arith, few-records, sizes)
 
-  within-types : r .count ≤ length (r .writable)
-  within-types = omega (arith, few-records, checked .types)
+    within-types : r .count ≤ length (r .writable)
+    within-types = omega (arith, few-records, types)
 
-  sizes-are : sizesOf (recordsOf r) ≡ frontOf (r .count) (r .sizes)
-  sizes-are = sizes-lent r within-sizes ∙ sym (front (r .count) (r .sizes))
+    sizes-are : sizesOf (recordsOf r) ≡ frontOf (r .count) (r .sizes)
+    sizes-are = sizes-lent r within-sizes ∙ sym (front (r .count) (r .sizes))
 
-  types-are : map (λ v. v .writable) (recordsOf r) ≡ frontOf (r .count) (r .writable)
-  types-are = types-lent r within-types ∙ sym (front (r .count) (r .writable))
+    types-are : map (λ v. v .writable) (recordsOf r) ≡ frontOf (r .count) (r .writable)
+    types-are = types-lent r within-types ∙ sym (front (r .count) (r .writable))
 
-  groups-same : frontOf (g .count) (g .sets) ≡ groupsOf g
-  groups-same = front (g .count) (g .sets) ∙ sym (groups-lent g (omega (arith, few-groups, checked .sets)))
+    groups-same : frontOf (g .count) (g .sets) ≡ groupsOf g
+    groups-same = front (g .count) (g .sets) ∙ sym (groups-lent g (omega (arith, few-groups, checked .sets)))
 
-  sound-board : SoundBoard (typedLayout (frontOf (r .count) (r .sizes)) (frontOf (r .count) (r .writable)) cs fs) (lent vs bs (frontOf (g .count) (g .sets)))
-  sound-board = rw groups-same (record {
-    variables = record {
-      few = rw (← sizes-are, sizes-count) few-records;
-      exact = ap sum (sym sizes-are) ∙ sym (sound .values);
-      small = rw (sound .values) (R.variables-small (recordsOf r) (sound .variables));
-    };
-    sizes = rw (← sizes-are) (sizes-usable (recordsOf r) (sound .variables));
-    curves = record { usable = sound .curves; exact = sound .blocks };
-    functions = sound .functions;
-    groups = R.groups-most (length (recordsOf r)) (groupsOf g) (sound .groups);
-  })
-    where
-      sizes-count : length (sizesOf (recordsOf r)) ≡ r .count
-      sizes-count = ap length sizes-are ∙ ap length (front (r .count) (r .sizes)) ∙ simp length-take (omega (arith, within-sizes))
+    sound-board : SoundBoard (typedLayout (frontOf (r .count) (r .sizes)) (frontOf (r .count) (r .writable)) cs fs) (lent vs bs (frontOf (g .count) (g .sets)))
+    sound-board = rw groups-same (record {
+      variables = record {
+        few = rw (← sizes-are, sizes-count) few-records;
+        exact = ap sum (sym sizes-are) ∙ sym (sound .values);
+        small = rw (sound .values) (R.variables-small (recordsOf r) (sound .variables));
+      };
+      sizes = rw (← sizes-are) (sizes-usable (recordsOf r) (sound .variables));
+      curves = record { usable = sound .curves; exact = sound .blocks };
+      functions = sound .functions;
+      groups = R.groups-most (length (recordsOf r)) (groupsOf g) (sound .groups);
+    })
+      where
+        sizes-count : length (sizesOf (recordsOf r)) ≡ r .count
+        sizes-count = ap length sizes-are ∙ ap length (front (r .count) (r .sizes)) ∙ simp length-take (omega (arith, within-sizes))
 
-  types-sound : SoundTypes (frontOf (r .count) (r .writable))
-  types-sound = record {
-    few = rw (front (r .count) (r .writable), length-take) (omega (arith, few-records));
-    each = rw (← types-are) (types-pass (recordsOf r) (R.variables-each (recordsOf r) (sound .variables)));
-  }
+    types-sound : SoundTypes (frontOf (r .count) (r .writable))
+    types-sound = record {
+      few = rw (front (r .count) (r .writable), length-take) (omega (arith, few-records));
+      each = rw (← types-are) (types-pass (recordsOf r) (R.variables-each (recordsOf r) (sound .variables)));
+    }
 
-  -- all that the work of a packet leans on
-  pub board-ready : BoardReady r cs fs g vs bs
-  board-ready = record {
-    usable-is = is-usable;
-    sizes-inside = within-sizes;
-    types-inside = within-types;
-    sets-inside = omega (arith, few-groups, checked .sets);
-    layout-is =
-        ap₂ (λ ns ws. typedLayout ns ws cs fs) (front (r .count) (r .sizes)) (front (r .count) (r .writable)) ∙ layout-lent r cs fs within-sizes within-types;
-    groups-are = groups-same;
-    sound = sound-board;
-    sound-types = types-sound;
-  }
+    -- all that the work of a packet leans on
+    pub board-ready : BoardReady r cs fs g vs bs
+    board-ready = record {
+      usable-is = is-usable;
+      sizes-inside = within-sizes;
+      types-inside = within-types;
+      sets-inside = omega (arith, few-groups, checked .sets);
+      layout-is =
+          ap₂ (λ ns ws. typedLayout ns ws cs fs) (front (r .count) (r .sizes)) (front (r .count) (r .writable)) ∙ layout-lent r cs fs within-sizes within-types;
+      groups-are = groups-same;
+      sound = sound-board;
+      sound-types = types-sound;
+    }

@@ -96,11 +96,9 @@ pub record CarriedAs (t : Table) (a : Place) (busy : ℕ) (p : List ℕ) (x : Le
 abbrev pub frontOf : ℕ → List ℕ → List ℕ
 frontOf n xs = midOf 0 (n - 0) xs
 
--- refusal 1, as u has it, and how long the arrays are that a record's columns and a group table's places stand in
+-- refusal 1, as u has it, and how long the array is that a group table's places stand in
 pub record BoardChecked (r : Records) (cs fs : List ℕ) (g : Groups) (x : Lent) (u : Bool) : Type 0 where
   pub board : u ≡ usable (tableOf r cs fs) (held (layout (tableOf r cs fs)) x)
-  pub sizes : length (r .sizes) ≡ 64
-  pub types : length (r .writable) ≡ 64
   pub sets : length (g .sets) ≡ 5
 
 -- a usable board, whose columns and places can be lent by their fronts

@@ -4,7 +4,6 @@ use bsmp::Outcome;
 use bsmp::Refusal;
 use changes::Regroup;
 use records::Groups;
-use records::Records;
 use wire::Opened;
 ghost use mathlib.Core.Path.{_≡_};
 ghost use Prim.Native.Nat.{_≤_};
@@ -13,7 +12,7 @@ ghost use Rattle.bsmp.specs.Board.{layout};
 ghost use Rattle.bsmp.specs.Packet.{message, served, packet};
 ghost use Rattle.bsmp.specs.Store.{held};
 ghost use Rattle.bsmp.specs.declared.Outcome.the-variants as O;
-ghost use Rattle.records.specs.Lending.{groupsOf, tableOf, lent};
+ghost use Rattle.records.specs.Lending.{recordsBy, groupsOf, tableOf, lent};
 ghost use Rattle.judging.specs.Judging.{SoundBoard};
 ghost use Rattle.serve.specs.Serve.{typedLayout, SoundTypes};
 ghost use Rattle.changes.specs.Changes.{regrouped};
@@ -128,7 +127,10 @@ fn answer(
 // The message of a packet on a usable board, which is lent by the fronts of its columns and places.
 fn lend(
     due: bool,
-    records: Records,
+    count: usize,
+    types: &[u8],
+    sizes: &[u8],
+    kinds: &[u8; 64],
     curves: &[u32],
     functions: &[u8],
     groups: Groups,
@@ -138,17 +140,16 @@ fn lend(
     request: &[u8],
     reply: &mut [u8],
 ) -> Received
-    requires { ⌜ BoardReady records (now curves) (now functions) groups (now values) (now blocks) ⌝ }
+    requires { let records = recordsBy count (now types) (now sizes) (now kinds) in
+        ⌜ BoardReady records (now curves) (now functions) groups (now values) (now blocks) ⌝ }
     requires { ⌜ (2 ≤ length (now request)) × (4104 ≤ length (now reply)) ⌝ }
-    ensures { λ r. let l = layout (tableOf records (now (curves .entry)) (now (functions .entry))) in
+    ensures { λ r. let records = recordsBy count (now (types .entry)) (now (sizes .entry)) (now (kinds .entry)) in
+        let l = layout (tableOf records (now (curves .entry)) (now (functions .entry))) in
         let x = lent (now (values .entry)) (now (blocks .entry)) (groupsOf groups) in
         let y = lent (now (values .exit)) (now (blocks .exit)) (groupsOf groups) in
         let result = served l busy due (message (now (request .entry))) (held l x) in
         ⌜ EndsAs result l (now (reply .entry)) (r .outcome) (r .regroup) (now (reply .exit)) y ⌝ }
 {
-    let count = records.count;
-    let sizes = records.sizes;
-    let types = records.writable;
     let made = groups.count as usize;
     let sets = groups.sets;
     let end = request.len() - 1;
@@ -167,9 +168,12 @@ fn lend(
     )
 }
 
-// A packet on a usable board.
+// A packet on a usable board. Two columns come as slices, since no front is lent of an array that was lent.
 fn receive(
-    records: Records,
+    count: usize,
+    types: &[u8],
+    sizes: &[u8],
+    kinds: &[u8; 64],
     curves: &[u32],
     functions: &[u8],
     groups: Groups,
@@ -181,8 +185,10 @@ fn receive(
     request: &[u8],
     reply: &mut [u8],
 ) -> Received
-    requires { ⌜ BoardReady records (now curves) (now functions) groups (now values) (now blocks) ⌝ }
-    ensures { λ r. let t = tableOf records (now (curves .entry)) (now (functions .entry)) in
+    requires { let records = recordsBy count (now types) (now sizes) (now kinds) in
+        ⌜ BoardReady records (now curves) (now functions) groups (now values) (now blocks) ⌝ }
+    ensures { λ r. let records = recordsBy count (now (types .entry)) (now (sizes .entry)) (now (kinds .entry)) in
+        let t = tableOf records (now (curves .entry)) (now (functions .entry)) in
         let x = lent (now (values .entry)) (now (blocks .entry)) (groupsOf groups) in
         let y = lent (now (values .exit)) (now (blocks .exit)) (groupsOf groups) in
         let b = now (reply .entry) in
@@ -196,7 +202,10 @@ fn receive(
     };
     lend(
         due,
-        records,
+        count,
+        types,
+        sizes,
+        kinds,
         curves,
         functions,
         groups,
@@ -208,26 +217,27 @@ fn receive(
     )
 }
 
-// Refusal 1, of records by columns. That the columns are 64 long and the places of a group table 5 is promised with it, for who lends their fronts.
+// Refusal 1, of records by columns. That the places of a group table are 5 is promised with it, for who lends their front.
 fn check_board(
-    records: Records,
+    count: usize,
+    writable: &[u8; 64],
+    sizes: &[u8; 64],
+    kinds: &[u8; 64],
     curves: &[u32],
     functions: &[u8],
     groups: Groups,
     values: &[u8],
     blocks: &[u8],
 ) -> bool
-    ensures { λ r. let x = lent (now (values .entry)) (now (blocks .entry)) (groupsOf groups) in
+    ensures { λ r. let records = recordsBy count (now (writable .entry)) (now (sizes .entry)) (now (kinds .entry)) in
+        let x = lent (now (values .entry)) (now (blocks .entry)) (groupsOf groups) in
         ⌜ BoardChecked records (now (curves .entry)) (now (functions .entry)) groups x r ⌝ }
 {
-    let writable = records.writable;
-    let sizes = records.sizes;
-    let kinds = records.kinds;
     records::quick_board(
-        records.count,
-        &writable,
-        &sizes,
-        &kinds,
+        count,
+        writable,
+        sizes,
+        kinds,
         curves,
         functions,
         groups,
@@ -238,7 +248,10 @@ fn check_board(
 
 // Any packet, on any board. What it makes of the made groups is told and not yet done, so that the table goes through no more hands.
 fn carry(
-    records: Records,
+    count: usize,
+    writable: &[u8; 64],
+    sizes: &[u8; 64],
+    kinds: &[u8; 64],
     curves: &[u32],
     functions: &[u8],
     groups: Groups,
@@ -250,15 +263,29 @@ fn carry(
     request: &[u8],
     reply: &mut [u8],
 ) -> Received
-    ensures { λ r. let t = tableOf records (now (curves .entry)) (now (functions .entry)) in
+    ensures { λ r. let records = recordsBy count (now (writable .entry)) (now (sizes .entry)) (now (kinds .entry)) in
+        let t = tableOf records (now (curves .entry)) (now (functions .entry)) in
         let x = lent (now (values .entry)) (now (blocks .entry)) (groupsOf groups) in
         let y = lent (now (values .exit)) (now (blocks .exit)) (groupsOf groups) in
         let b = now (reply .entry) in
         ⌜ CarriedAs t (placed own multicast) busy (now (request .entry)) x b (r .outcome) (r .regroup) (now (reply .exit)) y ⌝ }
 {
-    if check_board(records, curves, functions, groups, values, blocks) {
+    if check_board(
+        count,
+        writable,
+        sizes,
+        kinds,
+        curves,
+        functions,
+        groups,
+        values,
+        blocks,
+    ) {
         return receive(
-            records,
+            count,
+            &writable[..],
+            &sizes[..],
+            kinds,
             curves,
             functions,
             groups,
@@ -276,7 +303,10 @@ fn carry(
 
 // Any packet, on any board.
 pub fn packet(
-    records: Records,
+    count: usize,
+    writable: &[u8; 64],
+    sizes: &[u8; 64],
+    kinds: &[u8; 64],
     curves: &[u32],
     functions: &[u8],
     groups: Groups,
@@ -288,13 +318,17 @@ pub fn packet(
     request: &[u8],
     reply: &mut [u8],
 ) -> Done
-    ensures { λ r. let t = tableOf records (now (curves .entry)) (now (functions .entry)) in
+    ensures { λ r. let records = recordsBy count (now (writable .entry)) (now (sizes .entry)) (now (kinds .entry)) in
+        let t = tableOf records (now (curves .entry)) (now (functions .entry)) in
         let s = held (layout t) (lent (now (values .entry)) (now (blocks .entry)) (groupsOf groups)) in
         let result = packet t (placed own multicast) busy (length (now (reply .entry))) (now (request .entry)) s in
         ⌜ packetLeft r (now (reply .exit)) (now (values .exit)) (now (blocks .exit)) ≡ packetLeftOf result (now (reply .entry)) groups ⌝ }
 {
     let h = carry(
-        records,
+        count,
+        writable,
+        sizes,
+        kinds,
         curves,
         functions,
         groups,

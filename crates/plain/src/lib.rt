@@ -7,13 +7,12 @@ use readings::SignedReading;
 use readings::UnsignedReading;
 use readings::Writing;
 use records::Groups;
-use records::Records;
 use results::Ran;
 use results::Stored;
 ghost use mathlib.Core.Path.{_≡_};
 ghost use mathlib.Core.Bool.{true, false};
 ghost use lib.IntN.{pos};
-ghost use Rattle.records.specs.Lending.{recordsOf};
+ghost use Rattle.records.specs.Lending.{recordsBy, recordsOf};
 ghost use Rattle.readings.specs.Answers.{signedReadingOf, unsignedReadingOf};
 ghost use Rattle.plain.specs.Lending.{lending};
 ghost use Rattle.plain.specs.Numbers.{plainOutcomeOf, ranFrom, storedNumber, writingNumber, plainReadingOf, signedSays, unsignedSays};
@@ -156,7 +155,10 @@ fn ran_of(failed: bool, error: u8) -> Ran
 }
 
 pub fn packet(
-    records: Records,
+    count: usize,
+    writable: &[u8; 64],
+    sizes: &[u8; 64],
+    kinds: &[u8; 64],
     curves: &[u32],
     functions: &[u8],
     groups: Groups,
@@ -168,12 +170,16 @@ pub fn packet(
     request: &[u8],
     reply: &mut [u8],
 ) -> PlainDone
-    ensures { λ r. let board = lending (recordsOf records) (now (curves .entry)) (now (functions .entry)) groups (now (values .entry)) (now (blocks .entry)) in
+    ensures { λ r. let records = recordsBy count (now (writable .entry)) (now (sizes .entry)) (now (kinds .entry)) in
+        let board = lending (recordsOf records) (now (curves .entry)) (now (functions .entry)) groups (now (values .entry)) (now (blocks .entry)) in
         ⌜ plainPacketLeft (r .outcome) (r .groups) (now (reply .exit)) (now (values .exit)) (now (blocks .exit))
         ≡ packetOf board own multicast busy (now (request .entry)) (now (reply .entry)) ⌝ }
 {
     let done = node::packet(
-        records,
+        count,
+        writable,
+        sizes,
+        kinds,
         curves,
         functions,
         groups,
@@ -192,7 +198,10 @@ pub fn packet(
 }
 
 pub fn function_result(
-    records: Records,
+    count: usize,
+    writable: &[u8; 64],
+    sizes: &[u8; 64],
+    kinds: &[u8; 64],
     curves: &[u32],
     functions: &[u8],
     groups: Groups,
@@ -205,12 +214,16 @@ pub fn function_result(
     output: &[u8],
     reply: &mut [u8],
 ) -> PlainOutcome
-    ensures { λ r. let board = lending (recordsOf records) (now (curves .entry)) (now (functions .entry)) groups (now (values .entry)) (now (blocks .entry)) in
+    ensures { λ r. let records = recordsBy count (now (writable .entry)) (now (sizes .entry)) (now (kinds .entry)) in
+        let board = lending (recordsOf records) (now (curves .entry)) (now (functions .entry)) groups (now (values .entry)) (now (blocks .entry)) in
         ⌜ plainResultLeft r (now (reply .exit)) ≡ resultOf board function due failed error (now (output .entry)) (now (reply .entry)) ⌝ }
 {
     let ran = ran_of(failed, error);
     let outcome = results::function_result(
-        records,
+        count,
+        writable,
+        sizes,
+        kinds,
         curves,
         functions,
         groups,
@@ -226,7 +239,10 @@ pub fn function_result(
 }
 
 pub fn board_store(
-    records: Records,
+    count: usize,
+    writable: &[u8; 64],
+    sizes: &[u8; 64],
+    kinds: &[u8; 64],
     curves: &[u32],
     functions: &[u8],
     groups: Groups,
@@ -235,11 +251,15 @@ pub fn board_store(
     variable: usize,
     bytes: &[u8],
 ) -> u8
-    ensures { λ r. let board = lending (recordsOf records) (now (curves .entry)) (now (functions .entry)) groups (now (values .entry)) (now (blocks .entry)) in
+    ensures { λ r. let records = recordsBy count (now (writable .entry)) (now (sizes .entry)) (now (kinds .entry)) in
+        let board = lending (recordsOf records) (now (curves .entry)) (now (functions .entry)) groups (now (values .entry)) (now (blocks .entry)) in
         ⌜ plainBytesLeft r (now (values .exit)) ≡ storeOf board variable (now (bytes .entry)) ⌝ }
 {
     let stored = results::board_store(
-        records,
+        count,
+        writable,
+        sizes,
+        kinds,
         curves,
         functions,
         groups,
@@ -251,26 +271,90 @@ pub fn board_store(
     stored_number(stored)
 }
 
-pub fn read_signed(records: Records, variable: usize, bytes: &[u8]) -> PlainSignedReading
-    ensures { λ r. ⌜ signedSays r ≡ readingOf (recordsOf records) variable true (now (bytes .entry)) ⌝ }
+pub fn read_signed(
+    count: usize,
+    writable: &[u8; 64],
+    sizes: &[u8; 64],
+    kinds: &[u8; 64],
+    variable: usize,
+    bytes: &[u8],
+) -> PlainSignedReading
+    ensures { λ r. let records = recordsBy count (now (writable .entry)) (now (sizes .entry)) (now (kinds .entry)) in
+        ⌜ signedSays r ≡ readingOf (recordsOf records) variable true (now (bytes .entry)) ⌝ }
 {
-    signed_of(readings::read_signed(records, VariableNumber(variable), bytes))
+    signed_of(readings::read_signed(
+        count,
+        writable,
+        sizes,
+        kinds,
+        VariableNumber(variable),
+        bytes,
+    ))
 }
 
-pub fn read_unsigned(records: Records, variable: usize, bytes: &[u8]) -> PlainUnsignedReading
-    ensures { λ r. ⌜ unsignedSays r ≡ readingOf (recordsOf records) variable false (now (bytes .entry)) ⌝ }
+pub fn read_unsigned(
+    count: usize,
+    writable: &[u8; 64],
+    sizes: &[u8; 64],
+    kinds: &[u8; 64],
+    variable: usize,
+    bytes: &[u8],
+) -> PlainUnsignedReading
+    ensures { λ r. let records = recordsBy count (now (writable .entry)) (now (sizes .entry)) (now (kinds .entry)) in
+        ⌜ unsignedSays r ≡ readingOf (recordsOf records) variable false (now (bytes .entry)) ⌝ }
 {
-    unsigned_of(readings::read_unsigned(records, VariableNumber(variable), bytes))
+    unsigned_of(readings::read_unsigned(
+        count,
+        writable,
+        sizes,
+        kinds,
+        VariableNumber(variable),
+        bytes,
+    ))
 }
 
-pub fn write_signed(records: Records, variable: usize, number: i64, buffer: &mut [u8]) -> u8
-    ensures { λ r. ⌜ plainBytesLeft r (now (buffer .exit)) ≡ writingOf (recordsOf records) variable true number (now (buffer .entry)) ⌝ }
+pub fn write_signed(
+    count: usize,
+    writable: &[u8; 64],
+    sizes: &[u8; 64],
+    kinds: &[u8; 64],
+    variable: usize,
+    number: i64,
+    buffer: &mut [u8],
+) -> u8
+    ensures { λ r. let records = recordsBy count (now (writable .entry)) (now (sizes .entry)) (now (kinds .entry)) in
+        ⌜ plainBytesLeft r (now (buffer .exit)) ≡ writingOf (recordsOf records) variable true number (now (buffer .entry)) ⌝ }
 {
-    writing_number(readings::write_signed(records, VariableNumber(variable), number, buffer))
+    writing_number(readings::write_signed(
+        count,
+        writable,
+        sizes,
+        kinds,
+        VariableNumber(variable),
+        number,
+        buffer,
+    ))
 }
 
-pub fn write_unsigned(records: Records, variable: usize, number: u64, buffer: &mut [u8]) -> u8
-    ensures { λ r. ⌜ plainBytesLeft r (now (buffer .exit)) ≡ writingOf (recordsOf records) variable false (pos number) (now (buffer .entry)) ⌝ }
+pub fn write_unsigned(
+    count: usize,
+    writable: &[u8; 64],
+    sizes: &[u8; 64],
+    kinds: &[u8; 64],
+    variable: usize,
+    number: u64,
+    buffer: &mut [u8],
+) -> u8
+    ensures { λ r. let records = recordsBy count (now (writable .entry)) (now (sizes .entry)) (now (kinds .entry)) in
+        ⌜ plainBytesLeft r (now (buffer .exit)) ≡ writingOf (recordsOf records) variable false (pos number) (now (buffer .entry)) ⌝ }
 {
-    writing_number(readings::write_unsigned(records, VariableNumber(variable), number, buffer))
+    writing_number(readings::write_unsigned(
+        count,
+        writable,
+        sizes,
+        kinds,
+        VariableNumber(variable),
+        number,
+        buffer,
+    ))
 }

@@ -47,8 +47,8 @@ module _ (r : Records) (i : VariableNumber) (s : Bool) (n : ℕ) (c : Total) (e 
     judge-unknown h = rw (usable, ← record-count r, le-ltb _ _ h)
 
     module _ (h : i .0 < r .count) where
-      pub place-within : i .0 < 64
-      place-within = omega (arith, record-count r, variables-most (recordsOf r) usable)
+      pub place-within : (m : ℕ) → m ≡ 64 → i .0 < m
+      place-within m l = omega (arith, record-count r, variables-most (recordsOf r) usable)
 
       module _ (k : Kind) (w : Bool) (q : k ≡ kindOf (getD (r .kinds) (i .0) 0)) (p : w ≡ wrongKind s k) where
         known : judgedOf (recordsOf r) i s n ≡ cond w (Refused WrongKind) (cond (not (eqb n (getD (r .sizes) (i .0) 0))) (Refused WrongByteCount) (Good (isBig k)))

@@ -2,13 +2,12 @@
 use bsmp::Kind;
 use bsmp::Refusal;
 use bsmp::VariableNumber;
-use records::Records;
 ghost use mathlib.Core.Path.{_≡_};
 ghost use mathlib.Core.Bool.{true, false};
 ghost use lib.IntN.{pos};
 ghost use lib.ListN.{length};
 ghost use Rattle.bsmp.specs.Number.{wrongKind, isBig, reading, writing};
-ghost use Rattle.records.specs.Lending.{recordsOf};
+ghost use Rattle.records.specs.Lending.{recordsBy, recordsOf};
 ghost use Rattle.readings.specs.Answers.{judgedOf, signedReadingOf, unsignedReadingOf, writingLeft, writingLeftOf};
 
 // What signed bytes mean.
@@ -65,14 +64,19 @@ fn is_big(kind: Kind) -> bool
 }
 
 // Refusals 1, 9, 11 and 10, in this order: the tests that all four readings have.
-fn judge(records: Records, variable: VariableNumber, signed: bool, bytes: usize) -> Judged
-    ensures { λ r. ⌜ r ≡ judgedOf (recordsOf records) variable signed bytes ⌝ }
+fn judge(
+    count: usize,
+    writable: &[u8; 64],
+    sizes: &[u8; 64],
+    kinds: &[u8; 64],
+    variable: VariableNumber,
+    signed: bool,
+    bytes: usize,
+) -> Judged
+    ensures { λ r. let records = recordsBy count (now (writable .entry)) (now (sizes .entry)) (now (kinds .entry)) in
+        ⌜ r ≡ judgedOf (recordsOf records) variable signed bytes ⌝ }
 {
-    let count = records.count;
-    let writable = records.writable;
-    let sizes = records.sizes;
-    let kinds = records.kinds;
-    if !records::usable_records(count, &writable, &sizes, &kinds).usable {
+    if !records::usable_records(count, writable, sizes, kinds).usable {
         return Judged::Refused(Refusal::BoardUnusable);
     }
     let at = variable.0;
@@ -81,6 +85,7 @@ fn judge(records: Records, variable: VariableNumber, signed: bool, bytes: usize)
     }
     let kind = Kind::of(kinds[at]);
     let wrong = wrong_kind(signed, kind);
+    let sizes = &sizes[..];
     let size = sizes[at] as usize;
     if wrong {
         return Judged::Refused(Refusal::WrongKind);
@@ -92,10 +97,18 @@ fn judge(records: Records, variable: VariableNumber, signed: bool, bytes: usize)
 }
 
 // Bytes to number, of a signed variable: its refusals are those of `judge`.
-pub fn read_signed(records: Records, variable: VariableNumber, bytes: &[u8]) -> SignedReading
-    ensures { λ r. ⌜ signedReadingOf r ≡ reading (recordsOf records) variable true (now (bytes .entry)) ⌝ }
+pub fn read_signed(
+    count: usize,
+    writable: &[u8; 64],
+    sizes: &[u8; 64],
+    kinds: &[u8; 64],
+    variable: VariableNumber,
+    bytes: &[u8],
+) -> SignedReading
+    ensures { λ r. let records = recordsBy count (now (writable .entry)) (now (sizes .entry)) (now (kinds .entry)) in
+        ⌜ signedReadingOf r ≡ reading (recordsOf records) variable true (now (bytes .entry)) ⌝ }
 {
-    let judged = judge(records, variable, true, bytes.len());
+    let judged = judge(count, writable, sizes, kinds, variable, true, bytes.len());
     match judged {
         Judged::Good { big } => {
             let number = numbers::signed_reading(bytes, big);
@@ -106,10 +119,18 @@ pub fn read_signed(records: Records, variable: VariableNumber, bytes: &[u8]) -> 
 }
 
 // Bytes to number, of an unsigned variable.
-pub fn read_unsigned(records: Records, variable: VariableNumber, bytes: &[u8]) -> UnsignedReading
-    ensures { λ r. ⌜ unsignedReadingOf r ≡ reading (recordsOf records) variable false (now (bytes .entry)) ⌝ }
+pub fn read_unsigned(
+    count: usize,
+    writable: &[u8; 64],
+    sizes: &[u8; 64],
+    kinds: &[u8; 64],
+    variable: VariableNumber,
+    bytes: &[u8],
+) -> UnsignedReading
+    ensures { λ r. let records = recordsBy count (now (writable .entry)) (now (sizes .entry)) (now (kinds .entry)) in
+        ⌜ unsignedReadingOf r ≡ reading (recordsOf records) variable false (now (bytes .entry)) ⌝ }
 {
-    let judged = judge(records, variable, false, bytes.len());
+    let judged = judge(count, writable, sizes, kinds, variable, false, bytes.len());
     match judged {
         Judged::Good { big } => {
             let number = numbers::unsigned_reading(bytes, big);
@@ -121,15 +142,19 @@ pub fn read_unsigned(records: Records, variable: VariableNumber, bytes: &[u8]) -
 
 // Number to bytes, of a signed variable: `judge`'s refusals, then 12. A refusal leaves the buffer as it was.
 pub fn write_signed(
-    records: Records,
+    count: usize,
+    writable: &[u8; 64],
+    sizes: &[u8; 64],
+    kinds: &[u8; 64],
     variable: VariableNumber,
     number: i64,
     buffer: &mut [u8],
 ) -> Writing
-    ensures { λ r. let was = now (buffer .entry) in
+    ensures { λ r. let records = recordsBy count (now (writable .entry)) (now (sizes .entry)) (now (kinds .entry)) in
+        let was = now (buffer .entry) in
         ⌜ writingLeft r (now (buffer .exit)) ≡ writingLeftOf (writing (recordsOf records) variable true number (length was)) was ⌝ }
 {
-    let judged = judge(records, variable, true, buffer.len());
+    let judged = judge(count, writable, sizes, kinds, variable, true, buffer.len());
     match judged {
         Judged::Good { big } => {
             if !numbers::fits_signed(number, buffer.len()) {
@@ -144,15 +169,19 @@ pub fn write_signed(
 
 // Number to bytes, of an unsigned variable.
 pub fn write_unsigned(
-    records: Records,
+    count: usize,
+    writable: &[u8; 64],
+    sizes: &[u8; 64],
+    kinds: &[u8; 64],
     variable: VariableNumber,
     number: u64,
     buffer: &mut [u8],
 ) -> Writing
-    ensures { λ r. let was = now (buffer .entry) in
+    ensures { λ r. let records = recordsBy count (now (writable .entry)) (now (sizes .entry)) (now (kinds .entry)) in
+        let was = now (buffer .entry) in
         ⌜ writingLeft r (now (buffer .exit)) ≡ writingLeftOf (writing (recordsOf records) variable false (pos number) (length was)) was ⌝ }
 {
-    let judged = judge(records, variable, false, buffer.len());
+    let judged = judge(count, writable, sizes, kinds, variable, false, buffer.len());
     match judged {
         Judged::Good { big } => {
             if !numbers::fits_unsigned(number, buffer.len()) {

@@ -21,7 +21,7 @@ use Rattle.bsmp.proofs.Store.{join-cut}
 use Rattle.sets.specs.Members.{sizeAt}
 use Rattle.sets.specs.Promises as sets
 use Rattle.records.specs.declared.Records.{Records}
-use Rattle.records.specs.Lending.{recordsOf, tableOf, lent}
+use Rattle.records.specs.Lending.{recordsBy, recordsOf, tableOf, lent}
 use Rattle.records.proofs.Lending.{noVariable, record-count, record-at, sizes-lent}
 use Rattle.records.proofs.Sound.{Sound, variables-most, variables-small}
 use Rattle.results.specs.Results.{storeLeft, storeLeftOf}
@@ -52,7 +52,10 @@ module _ (r : Records) where
       pub bytes-right : (n : ℕ) → n ≡ getD (r .sizes) i 0 → not (eqb n (getD (sizesOf (recordsOf r)) i 0)) ≡ false
       bytes-right n k = rw (size-at, eq-eqb _ _ k)
 
-module _ (r : Records) (cs fs vs bs gs : List ℕ) where
+module _ (m : ℕ) (ws ss ks cs fs vs bs gs : List ℕ) where
+  abbrev r : Records
+  r = recordsBy m ws ss ks
+
   abbrev t : Table
   t = tableOf r cs fs
 
@@ -62,11 +65,11 @@ module _ (r : Records) (cs fs vs bs gs : List ℕ) where
   abbrev s : State
   s = held (layout t) x
 
-  few : Sound t x → r .count ≤ 64
+  few : Sound t x → m ≤ 64
   few z = rw (record-count r) (variables-most (recordsOf r) (z .variables))
 
-  pub size-inside : (c : Bool) (i : ℕ) → c ≡ usable t s → not c ≡ false → i < r .count → i < 64
-  size-inside c i e u h = omega (arith, few (board-sound t x c e u))
+  pub size-inside : (c : Bool) (i n : ℕ) → c ≡ usable t s → not c ≡ false → i < m → n ≡ 64 → i < n
+  size-inside c i n e u h l = omega (arith, few (board-sound t x c e u))
 
   -- the call ---------------------------------------------------------------------------------------------------------------
   module _ (i : VariableNumber) (b : List ℕ) where
@@ -88,20 +91,20 @@ module _ (r : Records) (cs fs vs bs gs : List ℕ) where
         sound : Sound t x
         sound = passed-sound t x tests j h e
 
-        store-few : r .count ≤ 64
+        store-few : m ≤ 64
         store-few = few sound
 
-        module _ (l : length (r .sizes) ≡ 64) where
-          pub store-lent : r .count ≤ length (r .sizes)
+        module _ (l : length ss ≡ 64) where
+          pub store-lent : m ≤ length ss
           store-lent = omega (arith, store-few)
 
-          lending : sizesOf (recordsOf r) ≡ take (r .count) (r .sizes)
+          lending : sizesOf (recordsOf r) ≡ take m ss
           lending = sizes-lent r store-lent
 
-          pub store-counted : r .count ≡ length (take (r .count) (r .sizes))
+          pub store-counted : m ≡ length (take m ss)
           store-counted = sym (size-count r) ∙ ap length lending
 
-          pub store-sound : sets.Sound (take (r .count) (r .sizes)) vs
+          pub store-sound : sets.Sound (take m ss) vs
           store-sound =
               let z = sound in
               rw (← lending) (record {
@@ -110,14 +113,14 @@ module _ (r : Records) (cs fs vs bs gs : List ℕ) where
                 small = omega (arith, z .values, variables-small (recordsOf r) (z .variables));
               })
 
-          pub store-known : i .0 < length (take (r .count) (r .sizes))
+          pub store-known : i .0 < length (take m ss)
           store-known = rw (← lending) (ltb-true _ _ (not-false _ (test 0)))
 
-          pub store-whole : (n : ℕ) → n ≡ length b → n ≡ sizeAt (take (r .count) (r .sizes)) i
+          pub store-whole : (n : ℕ) → n ≡ length b → n ≡ sizeAt (take m ss) i
           store-whole n q = q ∙ rw (← lending) (eqb-true _ _ (not-false _ (test 1)))
 
           pub store-done : (vs′ : List ℕ)
-              → cut (take (r .count) (r .sizes)) vs′ ≡ edited Replace (i ∷ []) (b ∷ []) (cut (take (r .count) (r .sizes)) vs)
+              → cut (take m ss) vs′ ≡ edited Replace (i ∷ []) (b ∷ []) (cut (take m ss) vs)
               → storeLeft Done vs′ ≡ storeLeftOf (boardStore t i b s)
           unfolding boardStore after
           store-done vs′ q =

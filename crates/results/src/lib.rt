@@ -4,7 +4,6 @@ use bsmp::Outcome;
 use bsmp::Refusal;
 use bsmp::VariableNumber;
 use records::Groups;
-use records::Records;
 ghost use mathlib.Core.Path.{_≡_};
 ghost use mathlib.Core.Bool.{true};
 ghost use Prim.Native.Nat.{_≤_};
@@ -14,7 +13,7 @@ ghost use Rattle.bsmp.specs.Board.{layout, faults};
 ghost use Rattle.bsmp.specs.Packet.{ends, ranSays, resultTests, storeTests, functionResult, boardStore};
 ghost use Rattle.bsmp.specs.Store.{held};
 ghost use Rattle.bsmp.specs.declared.Outcome.the-variants.{Reply};
-ghost use Rattle.records.specs.Lending.{groupsOf, tableOf, lent};
+ghost use Rattle.records.specs.Lending.{groupsOf, recordsBy, tableOf, lent};
 ghost use Rattle.results.specs.Results.{ranOf, ranPayload, resultLeft, resultLeftOf, storeLeft, storeLeftOf};
 ghost use Rattle.results.specs.declared.Judged.the-variants.{Pass, Refuse};
 
@@ -43,7 +42,10 @@ impl Ran {
 
 // Refusals 1, 3, 7, 8, in this order.
 fn judge_result(
-    records: Records,
+    count: usize,
+    writable: &[u8; 64],
+    sizes: &[u8; 64],
+    kinds: &[u8; 64],
     curves: &[u32],
     functions: &[u8],
     groups: Groups,
@@ -54,19 +56,16 @@ fn judge_result(
     output: &[u8],
     room: usize,
 ) -> Judged
-    ensures { λ r. let table = tableOf records (now (curves .entry)) (now (functions .entry)) in
+    ensures { λ r. let records = recordsBy count (now (writable .entry)) (now (sizes .entry)) (now (kinds .entry)) in
+        let table = tableOf records (now (curves .entry)) (now (functions .entry)) in
         let state = held (layout table) (lent (now (values .entry)) (now (blocks .entry)) (groupsOf groups)) in
         ⌜ r ≡ first (faults table state) Refuse (first (resultTests (layout table) room function (ranOf ran (now (output .entry)))) Refuse Pass) ⌝ }
 {
-    let count = records.count;
-    let writable = records.writable;
-    let sizes = records.sizes;
-    let kinds = records.kinds;
     let usable = records::usable_board(
         count,
-        &writable,
-        &sizes,
-        &kinds,
+        writable,
+        sizes,
+        kinds,
         curves,
         functions,
         groups,
@@ -113,7 +112,10 @@ fn answer(ran: Ran, output: &[u8], reply: &mut [u8]) -> usize
 
 // A function's result, handed in with whether an answer was due. Nothing but the reply buffer is written.
 pub fn function_result(
-    records: Records,
+    count: usize,
+    writable: &[u8; 64],
+    sizes: &[u8; 64],
+    kinds: &[u8; 64],
     curves: &[u32],
     functions: &[u8],
     groups: Groups,
@@ -125,7 +127,8 @@ pub fn function_result(
     output: &[u8],
     reply: &mut [u8],
 ) -> Outcome
-    ensures { λ r. let table = tableOf records (now (curves .entry)) (now (functions .entry)) in
+    ensures { λ r. let records = recordsBy count (now (writable .entry)) (now (sizes .entry)) (now (kinds .entry)) in
+        let table = tableOf records (now (curves .entry)) (now (functions .entry)) in
         let state = held (layout table) (lent (now (values .entry)) (now (blocks .entry)) (groupsOf groups)) in
         let was = now (reply .entry) in
         ⌜ resultLeft r (now (reply .exit))
@@ -133,7 +136,10 @@ pub fn function_result(
 {
     let room = reply.len();
     let judged = judge_result(
-        records,
+        count,
+        writable,
+        sizes,
+        kinds,
         curves,
         functions,
         groups,
@@ -157,7 +163,10 @@ pub fn function_result(
 
 // Refusals 1, 9, 10, in this order.
 fn judge_store(
-    records: Records,
+    count: usize,
+    writable: &[u8; 64],
+    sizes: &[u8; 64],
+    kinds: &[u8; 64],
     curves: &[u32],
     functions: &[u8],
     groups: Groups,
@@ -166,19 +175,16 @@ fn judge_store(
     variable: VariableNumber,
     bytes: &[u8],
 ) -> Judged
-    ensures { λ r. let table = tableOf records (now (curves .entry)) (now (functions .entry)) in
+    ensures { λ r. let records = recordsBy count (now (writable .entry)) (now (sizes .entry)) (now (kinds .entry)) in
+        let table = tableOf records (now (curves .entry)) (now (functions .entry)) in
         let state = held (layout table) (lent (now (values .entry)) (now (blocks .entry)) (groupsOf groups)) in
         ⌜ r ≡ first (faults table state) Refuse (first (storeTests (layout table) variable (now (bytes .entry))) Refuse Pass) ⌝ }
 {
-    let count = records.count;
-    let writable = records.writable;
-    let sizes = records.sizes;
-    let kinds = records.kinds;
     let usable = records::usable_board(
         count,
-        &writable,
-        &sizes,
-        &kinds,
+        writable,
+        sizes,
+        kinds,
         curves,
         functions,
         groups,
@@ -192,6 +198,7 @@ fn judge_store(
     if count <= i {
         return Judged::Refuse(Refusal::NoSuchVariable);
     }
+    let sizes = &sizes[..];
     if bytes.len() != sizes[i] as usize {
         return Judged::Refuse(Refusal::WrongByteCount);
     }
@@ -200,7 +207,10 @@ fn judge_store(
 
 // The board's own store of a new value, into any variable, read-only or busy too. Only that variable's bytes change.
 pub fn board_store(
-    records: Records,
+    count: usize,
+    writable: &[u8; 64],
+    sizes: &[u8; 64],
+    kinds: &[u8; 64],
     curves: &[u32],
     functions: &[u8],
     groups: Groups,
@@ -209,12 +219,16 @@ pub fn board_store(
     variable: VariableNumber,
     bytes: &[u8],
 ) -> Stored
-    ensures { λ r. let table = tableOf records (now (curves .entry)) (now (functions .entry)) in
+    ensures { λ r. let records = recordsBy count (now (writable .entry)) (now (sizes .entry)) (now (kinds .entry)) in
+        let table = tableOf records (now (curves .entry)) (now (functions .entry)) in
         let state = held (layout table) (lent (now (values .entry)) (now (blocks .entry)) (groupsOf groups)) in
         ⌜ storeLeft r (now (values .exit)) ≡ storeLeftOf (boardStore table variable (now (bytes .entry)) state) ⌝ }
 {
     let judged = judge_store(
-        records,
+        count,
+        writable,
+        sizes,
+        kinds,
         curves,
         functions,
         groups,
@@ -226,8 +240,7 @@ pub fn board_store(
     match judged {
         Judged::Refuse(refusal) => Stored::Refused(refusal),
         Judged::Pass => {
-            let count = records.count;
-            let sizes = records.sizes;
+            let sizes = &sizes[..];
             variables::store(&sizes[..count], values, variable, bytes);
             Stored::Done
         }

@@ -58,6 +58,7 @@ use Rattle.records.proofs.Records as T
 use Rattle.records.proofs.Records.Laws as T′
 use Rattle.columns.proofs.Walk.{down, span}
 use Rattle.columns.proofs.Byte.{byte, set-map, bytes-set, bytes-repeat}
+use Rattle.columns.proofs.Table.{machT, IsT, bytes, columnVal, IsColumn, columns}
 use Rattle.columns.proofs.Columns.{columns-count}
 use Rattle.columns.proofs.stored as few
 use Rattle.columns.proofs.stored.Symbol as few-def
@@ -85,37 +86,17 @@ after (exit k) = skip
 after return = skip
 after (call g xs p) = skip
 
--- a table's machine value, and a record's
-abbrev machT : Records → Val
-machT t = LL.val T.the-type T′.the-laws t
-
+-- a record's machine value
 abbrev machR : Variable → Val
 machR v = LL.val R.the-type R′.the-laws v
-
--- the machine values of a column: it denotes its bytes each by itself, and each has its machine value
-abbrev bytes : List ℕ → List Val
-bytes xs = map (λ x. vint w8 x) (map (λ x. x) xs)
-
-abbrev columnVal : List ℕ → Val
-columnVal xs = vstruct (ofList (bytes xs))
 
 -- a byte stored makes the machine value of the column with that byte
 stored-val : (xs : List ℕ) (i x : ℕ) → vstruct (ofList (set (bytes xs) i (vint w8 x))) ≡ columnVal (set xs i x)
 stored-val xs i x = ap (λ (us : List Val). vstruct (ofList us)) (set-map (λ y. vint w8 y) (map (λ y. y) xs) i x ∙ ap (λ (zs : List ℕ). map (λ y. vint w8 y) zs) (set-map (λ y. y) xs i x))
 
--- that a table, and a record, is what its machine value says
-abbrev IsT : Records → Type 0
-IsT t = Is T.the-row t (machT t ∷ [])
-
+-- that a record is what its machine value says
 abbrev IsR : Variable → Type 0
 IsR v = Is R.the-row v (machR v ∷ [])
-
-abbrev IsColumn : List ℕ → Type 0
-IsColumn xs = Is (Array u8 64) (map (λ y. y) xs) (columnVal xs ∷ [])
-
--- the columns of a table
-columns : (t : Records) → IsT t → IsColumn (t .writable) × (IsColumn (t .sizes) × IsColumn (t .kinds))
-columns t is = let a = LL.owed T.the-type T′.the-laws t _ is in (a .1 .0, (a .1 .1 .0, a .1 .1 .1 .0))
 
 length-column : (xs : List ℕ) → IsColumn xs → length (bytes xs) ≡ 64
 length-column xs c = length-map (map (λ x. x) xs) (λ x. vint w8 x) ∙ c .1 .0 .1

@@ -1,4 +1,5 @@
 -- `judge` meets its contract: each return is one case of `judgedOf`. Assumes nothing.
+use mir.Facts.{fits-widen}
 use borrow.Author.Needs.{needs}
 use Rattle.readings.proofs.Tests.{judge-cases, place-within}
 use Rattle.readings.proofs.judge.Statement.{statement}
@@ -14,8 +15,8 @@ judge-spec =
     (λ c. search (place-within, needs))
     (λ c κs. search needs)
     (λ c κs. search needs)
-    (λ c. search (place-within, needs))
-    (λ c. let k = c .before .before .before .before .before .before .before .before .before .before .before .before .good .0 .1 .1 .1 in search (k .0 .1 .1, k .1 .0 .1 .1, k .1 .1 .0 .1 .1, needs))
+    (λ c. search place-within)
+    (λ c. fits-widen tt (c .shared-slice-known .given _))
     (λ c. search (judge-cases, needs))
     (λ c. search (judge-cases, needs))
     (λ c κs. search needs)

@@ -1,4 +1,5 @@
 -- `judge_store` meets its contract. Assumes nothing.
+use mir.Facts.{fits-widen}
 use borrow.Author.Needs.{needs}
 use Rattle.bsmp.proofs.Chain.{first-next, first-stop, first-end}
 use Rattle.results.proofs.Judging.{board-refuses, board-passes}
@@ -11,6 +12,6 @@ judge-store-spec =
     tie.close
     (tie.spec (λ c κs. search needs) (λ c. search (board-refuses, needs))
     (λ c. search (board-passes, first-stop, variable-missing, needs) depth 5)
-    (λ c. search (size-inside, needs)) (λ c. let k = c .before .before .before .before .before .before .before .before .before .before .before .before .before .before .good .0 .1 .1 .1 in search (k .0 .1 .1, k .1 .0 .1 .1, k .1 .1 .0 .1 .1, needs))
+    (λ c. search size-inside) (λ c. fits-widen tt (c .shared-slice-known6 .given _))
     (λ c. search (board-passes, first-next, first-stop, variable-known, bytes-wrong, needs) depth 6)
     (λ c. search (board-passes, first-next, first-end, variable-known, bytes-right, needs) depth 7))
