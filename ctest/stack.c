@@ -105,7 +105,7 @@ static const struct call *current;
 
 #define ENTRY(function) ((__typeof__(&function))entry)
 #define RECORDS \
-    variables, board.variable_count, bsmp_curve_numbers(&board), 3 * board.curve_count, bsmp_function_numbers(&board), \
+    variables, board.variable_count, bsmp_node_curve_numbers(&board), 3 * board.curve_count, bsmp_node_function_numbers(&board), \
         2 * board.function_count
 #define STORES values, sizeof values, blocks, sizeof blocks
 

@@ -68,7 +68,7 @@ static bool measure(const struct asked *asked)
     TICKS->control = 5;
     uint32_t before = TICKS->current;
     for (int i = 0; i < TIMES; i++) {
-        struct bsmp_outcome outcome = bsmp_board_packet(asked->board, &state, 0, packet, length, reply, sizeof reply);
+        struct bsmp_outcome outcome = bsmp_node_packet(asked->board, &state, 0, packet, length, reply, sizeof reply);
         good = good && outcome.kind == BSMP_REPLY && reply[1] == asked->answered;
     }
     uint32_t spent = (before - TICKS->current) & 0xFFFFFF;

@@ -25,9 +25,9 @@ static void try_signed(size_t variable, int64_t number)
     size_t size = numbers[variable].size;
     uint8_t *written = heap(size), *expected = heap(size);
     bytes_by_hand((uint64_t)number, &numbers[variable], expected);
-    check_number("a signed writing", bsmp_board_write_signed(&number_board, variable, number, written, size), 0);
+    check_number("a signed writing", bsmp_node_write_signed(&number_board, variable, number, written, size), 0);
     check(memcmp(written, expected, size) == 0, "a signed writing", "other bytes");
-    struct bsmp_signed_reading reading = bsmp_board_read_signed(&number_board, variable, expected, size);
+    struct bsmp_signed_reading reading = bsmp_node_read_signed(&number_board, variable, expected, size);
     check_number("a signed reading", reading.refusal, 0);
     check(reading.number == number, "a signed reading", "another number");
     free(written);
@@ -39,9 +39,9 @@ static void try_unsigned(size_t variable, uint64_t number)
     size_t size = numbers[variable].size;
     uint8_t *written = heap(size), *expected = heap(size);
     bytes_by_hand(number, &numbers[variable], expected);
-    check_number("an unsigned writing", bsmp_board_write_unsigned(&number_board, variable, number, written, size), 0);
+    check_number("an unsigned writing", bsmp_node_write_unsigned(&number_board, variable, number, written, size), 0);
     check(memcmp(written, expected, size) == 0, "an unsigned writing", "other bytes");
-    struct bsmp_unsigned_reading reading = bsmp_board_read_unsigned(&number_board, variable, expected, size);
+    struct bsmp_unsigned_reading reading = bsmp_node_read_unsigned(&number_board, variable, expected, size);
     check_number("an unsigned reading", reading.refusal, 0);
     check(reading.number == number, "an unsigned reading", "another number");
     free(written);
@@ -100,10 +100,10 @@ static void try_reading_refusals(void)
         size_t variable = tries[i].variable, count = tries[i].count;
         const struct bsmp_board *board = &board_a;
         unsigned signed_one = tries[i].of_signed, unsigned_one = tries[i].of_unsigned;
-        check_number("a signed reading", bsmp_board_read_signed(board, variable, bytes, count).refusal, signed_one);
-        check_number("an unsigned reading", bsmp_board_read_unsigned(board, variable, bytes, count).refusal, unsigned_one);
-        check_number("a signed writing", bsmp_board_write_signed(board, variable, 0, bytes, count), signed_one);
-        check_number("an unsigned writing", bsmp_board_write_unsigned(board, variable, 0, bytes, count), unsigned_one);
+        check_number("a signed reading", bsmp_node_read_signed(board, variable, bytes, count).refusal, signed_one);
+        check_number("an unsigned reading", bsmp_node_read_unsigned(board, variable, bytes, count).refusal, unsigned_one);
+        check_number("a signed writing", bsmp_node_write_signed(board, variable, 0, bytes, count), signed_one);
+        check_number("an unsigned writing", bsmp_node_write_unsigned(board, variable, 0, bytes, count), unsigned_one);
     }
 }
 

@@ -102,7 +102,7 @@ static void try_wrong(int way, const struct wrong *wrong)
     check_outcome(wrong->name, way, &bench, &outcome, packet, "refused 1");
     check_number(wrong->name, store_by(way, &bench, 0, bytes, 4), BSMP_BOARD_UNUSABLE);
     check(digest(&bench) == before, wrong->name, "a refusal changed something");
-    struct bsmp_signed_reading reading = bsmp_board_read_signed(&bench.board, 0, bytes, 4);
+    struct bsmp_signed_reading reading = bsmp_node_read_signed(&bench.board, 0, bytes, 4);
     check_number(wrong->name, reading.refusal, wrong->of_variables ? BSMP_BOARD_UNUSABLE : 0);
     end(&bench);
 }
