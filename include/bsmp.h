@@ -33,8 +33,8 @@
 #include <stddef.h>
 #include <stdint.h>
 
-/* The version of this header and of the library with it, which a check of the gate holds to the Rust face's and the suite's;
- * and the version of the protocol, as the node answers it to command 00. */
+/* The version of this header with its library; .ci/checks/version holds the Rust face's and the suite's to it. And the version of
+ * the protocol, as the node answers it to command 00. */
 #define BSMP_VERSION_MAJOR 0
 #define BSMP_VERSION_MINOR 1
 #define BSMP_VERSION_PATCH 0
