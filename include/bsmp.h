@@ -10,11 +10,11 @@
  *   - The seven functions of the library itself have no such prefix and take bare slices. They come after, with who needs them.
  * Two helpers belong to both: bsmp_checksum and bsmp_refusal_words. examples/first_packet.c is the shortest program.
  *
- * Link with libbsmp_c.a. It calls nothing but, at most, memcpy, memmove and memset, which the C library or the firmware
- * supplies. There are two:
- *   - The proved archive is x86-64 code with the System V calling convention, and uses the SSE registers.
+ * Link with libbsmp_c.a. There are two:
+ *   - The proved archive is x86-64 code with the System V calling convention, and uses the SSE registers. It calls memcpy,
+ *     memmove and memset at most.
  *   - The portable edition is the proved source, compiled elsewhere and tested, for any target whose size_t has 32 or 64 bits;
- *     docs/BOARDS.md says what one trusts besides the proofs.
+ *     docs/BOARDS.md says what it calls, and what one trusts besides the proofs.
  *
  * Duties of the caller. Nothing can check them, and a call that breaks one may do anything:
  *   - Every pointer is valid for its length, which counts elements, and is aligned as its type asks.

@@ -18,8 +18,9 @@
 //! assert_eq!(values, [0x55]);
 //! ```
 //!
-//! Words and numbers are those of the project's document 01, and names those of the C header `bsmp.h`. The proved library is for x86-64; over
-//! the portable edition (`docs/BOARDS.md`), whose archive RATTLE_LIB names then, this crate works elsewhere too.
+//! Words and numbers are those of the project's document 01, names those of the C header. The proved library is for
+//! x86-64; over the portable edition (`docs/BOARDS.md`), whose archive RATTLE_LIB names then, this crate works on other
+//! machines of 64 bits too.
 #![warn(missing_docs)]
 
 mod board;
