@@ -1,4 +1,4 @@
-//! The wire codes: each is met in a reply, and has the header's name and number.
+//! The wire codes: each is met in a reply.
 use cruachvel::{wire, Address, Board, Curve, Kind, Node, Outcome, Variable, REPLY_ROOM};
 
 const READ_ONLY: u8 = 0;
@@ -52,26 +52,4 @@ fn each_code_is_met() {
     assert_eq!(answered(&mut node, 0x30, &[WRITABLE]), wire::FULL);
     node.busy = 1 << WRITABLE;
     assert_eq!(answered(&mut node, 0x20, &[WRITABLE, 9]), wire::BUSY);
-}
-
-#[test]
-fn names_and_numbers_are_the_header_s() {
-    let header = include_str!("../../include/bsmp.h");
-    let codes = [
-        ("OK", wire::OK),
-        ("MALFORMED", wire::MALFORMED),
-        ("UNSUPPORTED", wire::UNSUPPORTED),
-        ("BAD_ID", wire::BAD_ID),
-        ("BAD_VALUE", wire::BAD_VALUE),
-        ("BAD_SIZE", wire::BAD_SIZE),
-        ("READ_ONLY", wire::READ_ONLY),
-        ("FULL", wire::FULL),
-        ("BUSY", wire::BUSY),
-    ];
-    let declared = header.matches("    BSMP_WIRE_").count();
-    assert_eq!(declared, codes.len());
-    for (name, code) in codes {
-        let line = format!("    BSMP_WIRE_{} = 0x{:02X}", name, code);
-        assert!(header.contains(&line), "the header has no line:{}", line);
-    }
 }
