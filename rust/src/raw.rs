@@ -81,10 +81,10 @@ extern "C" {
         values_length: usize,
         blocks: *mut u8,
         blocks_length: usize,
-        request: *const u8,
-        request_length: usize,
+        packet: *const u8,
+        packet_length: usize,
         reply: *mut u8,
-        reply_length: usize,
+        reply_room: usize,
     ) -> Told;
 
     /// [`crate::function_result`] in numbers; `output` counts only if not `failed`, `error` only if `failed`.
@@ -107,7 +107,7 @@ extern "C" {
         output: *const u8,
         output_length: usize,
         reply: *mut u8,
-        reply_length: usize,
+        reply_room: usize,
     ) -> Told;
 
     /// [`crate::board_store`] in numbers: 0, or the refusal's.
