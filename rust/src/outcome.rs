@@ -119,12 +119,12 @@ pub enum Outcome<'a> {
 
 impl<'a> Outcome<'a> {
     pub(crate) fn told(told: Told, request: &'a [u8], reply: &'a [u8]) -> Outcome<'a> {
-        let (input, length) = (told.input as usize, told.length as usize);
+        let (input, length) = (told.input, told.length);
         match told.kind {
             Told::REPLY => Outcome::Reply(&reply[..length]),
             Told::SILENCE => Outcome::Silence,
             Told::RUN => Outcome::Run {
-                function: FunctionNumber(told.function as usize),
+                function: FunctionNumber(told.function),
                 input: &request[input..input + length],
                 due: told.due,
             },
