@@ -166,7 +166,7 @@ function tableOf(name, { bytes, words, parts }) {
       element("td", { textContent: field.meaning }),
     ),
   );
-  const table = element("table", {}, element("thead", {}, element("tr", {}, ...head)), element("tbody", {}, ...rows));
+  const table = element("table", { className: "fields" }, element("thead", {}, element("tr", {}, ...head)), element("tbody", {}, ...rows));
   table.setAttribute("aria-label", `${name}, field by field`);
   return element("div", { className: "wide" }, element("p", { className: "bytes" }, bytesOf(bytes ?? words)), table);
 }

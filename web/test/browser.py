@@ -48,9 +48,14 @@ class Browser:
         return self
 
     def __exit__(self, *_):
-        """The browser is a group of processes of its own, which ends as a whole."""
-        os.killpg(self.process.pid, signal.SIGKILL)
-        self.process.wait(PATIENCE)
+        """Asks the browser to end, which ends its helpers too; else ends all of them, as they are a group of processes of their own."""
+        try:
+            self.session = None
+            self.order("Browser.close")
+            self.process.wait(PATIENCE)
+        except (Broken, OSError, subprocess.TimeoutExpired):
+            os.killpg(self.process.pid, signal.SIGKILL)
+            self.process.wait(PATIENCE)
         os.close(self.orders)
         os.close(self.answers)
         shutil.rmtree(self.profile, ignore_errors=True)
