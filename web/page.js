@@ -29,7 +29,6 @@ let about;
 let now; // { board: text, question: text, calls: [{ text, sum }] }
 let earlier = []; // the cases that undo goes back to
 let came; // what came of `now`: { told: one for each call, things }
-let shown; // the place of the call that is shown
 
 const start = () => ({ board: about.board, question: "", calls: [] });
 
@@ -117,6 +116,7 @@ function element(name, attributes = {}, ...children) {
 }
 
 function show(next, answer) {
+  const isNewBoard = next.board !== now?.board;
   now = next;
   came = answer;
   showHistory();
@@ -124,14 +124,21 @@ function show(next, answer) {
   showHandbook();
   showCall(came.told.length - 1);
   showLink();
+  if (isNewBoard) showBoard();
+  ["notice", "line-mistake", "sent-mistake"].forEach((id) => complain(id, ""));
+}
+
+// What was typed of another board stays until there is one.
+function showBoard() {
   part("board-text").value = now.board;
   fillForm();
-  ["notice", "line-mistake", "board-mistake", "form-mistake", "sent-mistake"].forEach((id) => complain(id, ""));
+  complain("board-mistake", "");
+  complain("form-mistake", "");
 }
 
 function showCall(place) {
-  shown = place;
   const told = came.told[place];
+  part("outcome").classList.toggle("told", Boolean(told));
   part("outcome").textContent = told ? told.facts.outcome : "Type a packet and run it, or choose a question.";
   part("facts").replaceChildren(...(told ? factsOf(told.facts) : []));
   part("as-text").hidden = !told;
@@ -168,7 +175,7 @@ function tableOf(name, { bytes, words, parts }) {
   );
   const table = element("table", { className: "fields" }, element("thead", {}, element("tr", {}, ...head)), element("tbody", {}, ...rows));
   table.setAttribute("aria-label", `${name}, field by field`);
-  return element("div", { className: "wide" }, element("p", { className: "bytes" }, bytesOf(bytes ?? words)), table);
+  return element("div", {}, element("p", { className: "bytes" }, bytesOf(bytes ?? words)), table);
 }
 
 // Many bytes are shown in a box of their own, which is scrolled by keyboard too.
@@ -202,7 +209,11 @@ function showLink() {
   const address = location.href.split("#")[0] + (isStart ? "" : `#${fragment(now)}`);
   part("link").value = address;
   part("copied").textContent = "";
-  history.replaceState(null, "", address); // so that the case outlasts loading the page anew
+  try {
+    history.replaceState(null, "", address); // so that the case outlasts loading the page anew
+  } catch {
+    // Some viewers of attachments forbid it, and do without.
+  }
 }
 
 function showThings() {
@@ -257,15 +268,21 @@ function runLine(event) {
   const call = { text: part("line").value, sum: part("sum").checked };
   const answer = change({ ...now, calls: [...now.calls, call] }, [now]);
   if (answer.mistake) return complainOf(part("line"), answer);
-  part("answer").scrollIntoView({ block: "start" });
+  goToAnswer();
+}
+
+// Where the answer stands below what was asked, it comes into sight.
+function goToAnswer() {
+  if (matchMedia("(max-width: 64rem)").matches) part("answer").scrollIntoView({ block: "start" });
 }
 
 // Busy marks are a line as whatif takes it. Marks right after marks take their place.
-function markBusy() {
+function markBusy({ target }) {
   const marked = [...part("things").querySelectorAll("input:checked")].map((box) => box.value);
   const isMarks = came.told.length > 0 && came.told[came.told.length - 1].facts.busy;
   const calls = isMarks ? now.calls.slice(0, -1) : now.calls;
   change({ ...now, calls: [...calls, { text: `busy ${marked.join(" ")}`.trim(), sum: false }] }, [now]);
+  part("things").querySelector(`input[value="${target.value}"]`).focus(); // the table is a new one
 }
 
 function showQuestion(event) {
@@ -274,7 +291,7 @@ function showQuestion(event) {
   if (!found) return;
   const calls = found.lines.map((text) => ({ text, sum: false }));
   take({ board: found.board, question: found.question, calls }, [now]);
-  part("answer").scrollIntoView({ block: "start" });
+  goToAnswer();
 }
 
 function decode(event) {

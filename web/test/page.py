@@ -164,6 +164,7 @@ def a_bad_board_file_is_told_and_not_used(page):
         has("variable 1", page.thing("variable 1"), "66")
         page.run(READ)
         page.sees_row("value of 0", "means -3")
+        is_same("the text after a call", page.browser.value("document.getElementById('board-text').value"), bad.read_text())
         good = Path(folder) / "good.board"
         good.write_text("address 7\nvariable writable 1 signed big value -3\nbusy 0\n")
         page.browser.give_file("#file", good)
