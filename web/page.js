@@ -91,8 +91,9 @@ function fragment(made) {
 function linked(link) {
   const [kind, ...rest] = link.slice(link.indexOf("#") + 1).split("&");
   const pairs = [...new URLSearchParams(rest.join("&"))];
-  const [name, sum] = pairs.pop() ?? [];
-  if (kind !== LINK || name !== "check" || sum !== check(JSON.stringify(pairs))) return null;
+  const [, sum] = pairs.pop() ?? [];
+  const names = pairs.map(([name]) => name).join(" ");
+  if (kind !== LINK || sum !== check(JSON.stringify(pairs)) || !/^board question( call| summed)*$/.test(names)) return null;
   const [[, board], [, question], ...calls] = pairs;
   return { board, question, calls: calls.map(([name, text]) => ({ text, sum: name === "summed" })) };
 }

@@ -40,11 +40,15 @@ class Browser:
         os.close(orders)
         os.close(answers)
         self.rest, self.count, self.session = b"", 0, None
-        target = self.order("Target.createTarget", url="about:blank")["targetId"]
-        self.session = self.order("Target.attachToTarget", targetId=target, flatten=True)["sessionId"]
-        self.order("Page.enable")
 
     def __enter__(self):
+        try:
+            target = self.order("Target.createTarget", url="about:blank")["targetId"]
+            self.session = self.order("Target.attachToTarget", targetId=target, flatten=True)["sessionId"]
+            self.order("Page.enable")
+        except BaseException:
+            self.__exit__()
+            raise
         return self
 
     def __exit__(self, *_):

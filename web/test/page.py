@@ -6,6 +6,7 @@ page with one text changed, or the WebAssembly with one of its words changed."""
 import json
 import re
 import shutil
+import signal
 import subprocess
 import sys
 import tempfile
@@ -77,6 +78,11 @@ def says_what_it_is(page):
     page.sees("#edition", "tested edition", "the proved source, compiled elsewhere and tested", "Version " + version)
     seen = page.browser.text("body")
     is_same("how often the page says proved", len(re.findall(r"\bproved\b", seen)), 1)
+
+
+def it_connects_to_nothing(page):
+    for address in ("data:,text", "https://localhost/", page.address):
+        holds("it may fetch " + address, not page.browser.value("fetch(%s).then(() => true, () => false)" % json.dumps(address)))
 
 
 def a_read_answers_minus_three(page):
@@ -294,6 +300,7 @@ def the_questions_are_told_as_by_whatif(page):
 # Each with an edit of the page that it must not pass: the file, the text that is changed and what it is changed to.
 TESTS = [
     (says_what_it_is, "page.html", "compiled elsewhere and tested", "proved elsewhere"),
+    (it_connects_to_nothing, "page.html", "default-src 'none'", "default-src data:"),
     (a_read_answers_minus_three, "wasm", b"means ", b"reads "),
     (a_write_gets_its_rule_also_by_a_link, "page.js", 'sum ? "summed" : "call", text]', '"call", text.slice(0, 8)]'),
     (a_function_is_run_and_undone, "page.js", "show(last, run(last));", "show(last, came);"),
@@ -350,6 +357,7 @@ def pictures(browser, address, whatif, folder):
 
 
 def main(page, wasm, folder, *whatif):
+    signal.signal(signal.SIGTERM, lambda *_: sys.exit("it was ended from outside"))  # so that the browser is ended too
     address, folder = Path(page).resolve().as_uri(), Path(folder)
     folder.mkdir(parents=True, exist_ok=True)
     bad = 0
