@@ -30,7 +30,8 @@ let now; // { board: text, question: text, calls: [{ text, sum }] }
 let earlier = []; // the cases that undo goes back to
 let came; // what came of `now`: { told: one for each call, things }
 
-const start = () => ({ board: about.board, question: "", calls: [] });
+const onBoard = (board) => ({ board, question: "", calls: [] });
+const start = () => onBoard(about.board);
 
 // What comes of a case; else what is wrong with its board or with the call at `call`.
 function run({ board, calls }) {
@@ -181,7 +182,7 @@ function tableOf(name, { bytes, words, parts }) {
 
 // Many bytes are shown in a box of their own, which is scrolled by keyboard too.
 function bytesOf(text) {
-  return text.length > 120 ? element("div", { className: "long", tabIndex: 0, textContent: text }) : text;
+  return text.length > 120 ? element("div", { className: "long", tabIndex: 0, role: "group", ariaLabel: "bytes", textContent: text }) : text;
 }
 
 function showHandbook() {
@@ -326,7 +327,12 @@ async function copyLink() {
 
 // ---- Another board ----
 
-const useBoard = (board) => change({ board, question: "", calls: [] }, [now]);
+const useBoard = (board) => change(onBoard(board), [now]);
+
+function useHandbook(event) {
+  event.preventDefault();
+  useBoard(about.boards[part("handbook-board").value].text);
+}
 
 function useFile(event) {
   event.preventDefault();
@@ -388,10 +394,11 @@ function useForm(event) {
 
 // ---- The start ----
 
-function fillQuestions() {
+function fillHandbook() {
   const sections = new Map(about.questions.map(({ section }) => [section, element("optgroup", { label: section })]));
   about.questions.forEach(({ section, question }, place) => sections.get(section).append(element("option", { value: place, textContent: question })));
   part("question").append(...sections.values());
+  part("handbook-board").append(...about.boards.map(({ name }, value) => element("option", { value, textContent: name })));
 }
 
 function fillCalls() {
@@ -408,11 +415,12 @@ function listen() {
   part("line-form").onsubmit = runLine;
   part("reply-form").onsubmit = decode;
   part("open-form").onsubmit = openSent;
+  part("handbook-form").onsubmit = useHandbook;
   part("file-form").onsubmit = useFile;
   part("board-form").onsubmit = useForm;
   part("file").onchange = readFile;
   part("undo").onclick = undo;
-  part("anew").onclick = () => change(start(), [now]);
+  part("anew").onclick = () => useBoard(now.board);
   part("copy").onclick = copyLink;
   part("line").onkeydown = (event) => {
     if (event.key === "Enter" && !event.shiftKey) runLine(event);
@@ -436,7 +444,7 @@ async function main() {
   about = ask("about");
   part("version").textContent = about.version;
   part("board-files").textContent = about.board_files;
-  fillQuestions();
+  fillHandbook();
   fillCalls();
   listen();
   openAddress([]);

@@ -1,6 +1,6 @@
 //! A board for the page: what it holds now, and the words of its lines in a board file.
 use suite::boards;
-use suite::lent::{members, values_length, Lent};
+use suite::lent::{members, Lent};
 use suite::whatif::bytes::{hex, shown};
 use suite::whatif::changes::value_text;
 use suite::whatif::json::{array, object, string};
@@ -20,37 +20,26 @@ pub fn board_a() -> Setting {
 /// What the board has, thing by thing: its name, what it is, what it holds, and of a variable whether it is busy.
 pub fn things(setting: &Setting) -> String {
     let lent = &setting.lent;
-    let address = object([
-        ("name", string("address")),
-        ("what", string(&address_text(lent))),
-    ]);
-    let variables = (0..lent.variables.len()).map(|number| variable(setting, number));
-    let groups =
-        (0..).map_while(|number| Some(named("group", number, &group_text(group(lent, number)?))));
-    let curves = (0..).map_while(|number| curve_thing(lent, number));
-    let functions = (0..).map_while(|number| {
-        Some(named(
-            "function",
-            number,
-            &function_text(function(lent, number)?),
-        ))
-    });
-    let all = std::iter::once(address)
-        .chain(variables)
-        .chain(groups)
-        .chain(curves)
-        .chain(functions);
-    object([("things", array(all))])
+    let mut things = vec![thing("address", &address_text(lent), None)];
+    things.extend((0..lent.variables.len()).map(|number| variable(setting, number)));
+    things.extend((0..).map_while(|number| group_thing(lent, number)));
+    things.extend((0..).map_while(|number| curve_thing(lent, number)));
+    things.extend((0..).map_while(|number| function_thing(lent, number)));
+    object([("things", array(things))])
+}
+
+fn thing(name: &str, what: &str, holds: Option<String>) -> String {
+    let holds = holds.map(|holds| ("holds", string(&holds)));
+    object(
+        [("name", string(name)), ("what", string(what))]
+            .into_iter()
+            .chain(holds),
+    )
 }
 
 fn address_text(lent: &Lent) -> String {
     let joined = members(lent.address.multicast.reverse_bits().into()).map(|bit| 248 + bit);
     format!("{}; multicast {}", lent.address.own, listed(joined))
-}
-
-fn named(name: &str, number: usize, what: &str) -> String {
-    let name = format!("{} {}", name, number);
-    object([("name", string(&name)), ("what", string(what))])
 }
 
 fn variable(setting: &Setting, number: usize) -> String {
@@ -66,13 +55,20 @@ fn variable(setting: &Setting, number: usize) -> String {
     ])
 }
 
+fn group_thing(lent: &Lent, number: usize) -> Option<String> {
+    let what = group_text(group(lent, number)?);
+    Some(thing(&format!("group {}", number), &what, None))
+}
+
 fn curve_thing(lent: &Lent, number: usize) -> Option<String> {
     let what = curve_text(curve(lent, number)?);
-    Some(object([
-        ("name", string(&format!("curve {}", number))),
-        ("what", string(&what)),
-        ("holds", string(&shown(curve_bytes(lent, number)))),
-    ]))
+    let holds = shown(curve_bytes(lent, number));
+    Some(thing(&format!("curve {}", number), &what, Some(holds)))
+}
+
+fn function_thing(lent: &Lent, number: usize) -> Option<String> {
+    let what = function_text(function(lent, number)?);
+    Some(thing(&format!("function {}", number), &what, None))
 }
 
 // A curve's bytes, as far as the store has them.
@@ -85,31 +81,28 @@ fn curve_bytes(lent: &Lent, number: usize) -> &[u8] {
 /// The words of the lines that describe a board, by the name that starts the line.
 pub fn form(setting: &Setting) -> String {
     let lent = &setting.lent;
-    let variables = (0..lent.variables.len()).map(|number| variable_words(lent, number));
-    let curves = (0..).map_while(|number| curve_words(lent, number));
+    let mut fitted = lent.clone();
+    fitted.refit();
     let functions = lent.functions.chunks(2);
     object([
         ("address", rows([vec![lent.address.own.to_string()]])),
         ("multicast", rows([vec![hex(&[lent.address.multicast])]])),
-        ("variable", rows(variables)),
-        ("curve", rows(curves)),
+        (
+            "variable",
+            rows((0..lent.variables.len()).map(|number| variable_words(lent, number))),
+        ),
+        (
+            "curve",
+            rows((0..).map_while(|number| curve_words(lent, number))),
+        ),
         (
             "function",
             rows(functions.map(|sizes| sizes.iter().map(u8::to_string).collect())),
         ),
         ("group", rows(made_groups(lent))),
         ("busy", rows([vec![listed(members(setting.busy))]])),
-        (
-            "values",
-            rows(wrong_store(&lent.values, values_length(&lent.variables))),
-        ),
-        (
-            "blocks",
-            rows(wrong_store(
-                &lent.blocks,
-                curve_start(lent, lent.curves.len() / 3),
-            )),
-        ),
+        ("values", rows(odd_store(&lent.values, &fitted.values))),
+        ("blocks", rows(odd_store(&lent.blocks, &fitted.blocks))),
     ])
 }
 
@@ -159,7 +152,7 @@ fn made_groups(lent: &Lent) -> Vec<Vec<String>> {
         .collect()
 }
 
-// A store whose length is not what the records add up to has a line of its own.
-fn wrong_store(store: &[u8], right: usize) -> Option<Vec<String>> {
-    (store.len() != right).then(|| vec![hex(store)])
+// A store needs a line of its own where it has another length than the records make.
+fn odd_store(store: &[u8], fitted: &[u8]) -> Option<Vec<String>> {
+    (store.len() != fitted.len()).then(|| vec![hex(store)])
 }

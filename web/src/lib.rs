@@ -90,7 +90,7 @@ pub extern "C" fn form() -> u64 {
     })
 }
 
-/// What the page says of itself: its version, how calls are written, and the questions.
+/// What the page starts with: its version, how calls are written, the boards and the questions of the handbook.
 #[no_mangle]
 pub extern "C" fn about() -> u64 {
     answered(|_, _| questions::about())

@@ -11,7 +11,7 @@ const BOARD_FILES: &str = include_str!("../../docs/BOARD-FILE.md");
 // Each with its name and its text.
 const BOARDS: &[(&str, &str)] = &include!(concat!(env!("OUT_DIR"), "/boards.rs"));
 
-/// The version, how calls are written, what a board file is, and the questions.
+/// The version, how calls are written, what a board file is, board A, and all boards and questions of the handbook.
 pub fn about() -> String {
     let questions = parse(CASES).unwrap_or_default();
     object([
@@ -19,6 +19,7 @@ pub fn about() -> String {
         ("calls", array(calls())),
         ("board_files", string(BOARD_FILES)),
         ("board", string(text_of("a"))),
+        ("boards", array(BOARDS.iter().map(board))),
         ("questions", array(questions.iter().map(question))),
     ])
 }
@@ -38,6 +39,10 @@ fn calls() -> impl Iterator<Item = String> {
             ("means", string(means.trim())),
         ]))
     })
+}
+
+fn board((name, text): &(&str, &str)) -> String {
+    object([("name", string(name)), ("text", string(text))])
 }
 
 fn text_of(board: &str) -> &'static str {
