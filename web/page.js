@@ -100,7 +100,7 @@ function linked(link) {
 }
 
 // Opens a link; else says in words what is wrong with it.
-function open(link, before) {
+function openLink(link, before) {
   const next = linked(link);
   if (!next) return "This link is broken or was cut off on its way. Ask for it anew.";
   const { mistake, call } = take(next, before);
@@ -194,12 +194,16 @@ function showHandbook() {
   part("handbook").replaceChildren(element("h3", { textContent: found.question }), element("p", { textContent: found.answer }), ...says);
 }
 
+// A button with a line as whatif takes it, and a word about it.
+function choice(line, about, onclick) {
+  return element("button", { type: "button", onclick }, element("strong", { textContent: line }), element("span", { textContent: about }));
+}
+
 function showHistory() {
   const items = now.calls.map(({ text, sum }, place) => {
-    const button = element("button", { type: "button", onclick: () => showCall(place) });
-    button.append(element("strong", { textContent: sum ? `${text}, checksum added` : text }));
-    button.append(element("span", { textContent: came.told[place].facts.outcome }));
-    return element("li", {}, button);
+    const { facts } = came.told[place];
+    const said = sum && facts.packet ? `${text}, checksum added` : text; // other calls have none
+    return element("li", {}, choice(said, facts.outcome, () => showCall(place)));
   });
   part("calls-so-far").replaceChildren(...items);
   part("no-calls").hidden = items.length > 0;
@@ -311,7 +315,7 @@ function startKeyword(keyword) {
 
 function openSent(event) {
   event.preventDefault();
-  const wrong = open(part("sent").value.trim(), [now]);
+  const wrong = openLink(part("sent").value.trim(), [now]);
   complain("sent-mistake", wrong);
 }
 
@@ -402,11 +406,7 @@ function fillHandbook() {
 }
 
 function fillCalls() {
-  const items = about.calls.map(({ keyword, form, means }) => {
-    const button = element("button", { type: "button", onclick: () => startKeyword(keyword) });
-    button.append(element("strong", { textContent: form }), element("span", { textContent: means }));
-    return element("li", {}, button);
-  });
+  const items = about.calls.map(({ keyword, form, means }) => element("li", {}, choice(form, means, () => startKeyword(keyword))));
   part("calls").append(...items);
 }
 
@@ -436,7 +436,7 @@ function openAddress(before) {
   const link = location.hash;
   earlier = before;
   show(start(), run(start()));
-  if (link.length > 1) complain("notice", open(link, []));
+  if (link.length > 1) complain("notice", openLink(link, []));
 }
 
 async function main() {

@@ -51,7 +51,7 @@ pub extern "C" fn begin() -> u64 {
     answered(|session, text| match board_file::parse(text) {
         Ok(setting) => {
             session.setting = setting;
-            board::things(&session.setting)
+            "{}".to_string()
         }
         Err(mistake) => told::board_mistake(&mistake),
     })

@@ -94,6 +94,17 @@ def a_read_answers_minus_three(page):
     is_same("history", page.outcomes(), ["reply 11, value of a variable"])
 
 
+def a_checksum_is_added(page):
+    page.browser.click("#sum")
+    page.run("05 10 00 01 00")
+    page.sees("#outcome", "reply 11, value of a variable")
+    page.sees_row("checksum", "F1", "the sum is 0")
+    page.run("store 1 66")
+    page.open(page.browser.value("location.hash"))
+    lines = page.browser.value("[...document.querySelectorAll('#calls-so-far strong')].map((line) => line.innerText)")
+    is_same("the calls by the link", lines, ["05 10 00 01 00, checksum added", "store 1 66"])
+
+
 def a_write_gets_its_rule_also_by_a_link(page):
     page.browser.type("#line", WRITE_READ_ONLY)
     page.browser.press("Enter", 13)
@@ -306,7 +317,8 @@ TESTS = [
     (says_what_it_is, "page.html", "compiled elsewhere and tested", "proved elsewhere"),
     (it_connects_to_nothing, "page.html", "default-src 'none'", "default-src data:"),
     (a_read_answers_minus_three, "wasm", b"means ", b"reads "),
-    (a_write_gets_its_rule_also_by_a_link, "page.js", 'sum ? "summed" : "call", text]', '"call", text.slice(0, 8)]'),
+    (a_checksum_is_added, "page.js", 'sum ? "summed" : "call", text]', '"call", text]'),
+    (a_write_gets_its_rule_also_by_a_link, "page.js", "calls.map(({ text, sum }) =>", "calls.slice(1).map(({ text, sum }) =>"),
     (a_function_is_run_and_undone, "page.js", "show(last, run(last));", "show(last, came);"),
     (a_broken_link_is_told, "page.js", "sum !== check(JSON.stringify(pairs))", "!sum"),
     (an_error_in_the_hex_is_placed, "page.js", "letters[place - 1] });", "letters[place] });"),
