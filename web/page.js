@@ -140,7 +140,7 @@ function showBoard() {
 
 function showCall(place) {
   const told = came.told[place];
-  part("outcome").classList.toggle("told", Boolean(told));
+  part("outcome").className = told ? `told ${isRefused(told.facts) ? "refused" : ""}` : "";
   part("outcome").textContent = told ? told.facts.outcome : "Type a packet and run it, or choose a question.";
   part("facts").replaceChildren(...(told ? factsOf(told.facts) : []));
   part("as-text").hidden = !told;
@@ -150,6 +150,9 @@ function showCall(place) {
 
 // The facts that are for a reader, in whatif's order and under its names.
 const FOR_PROGRAMS = ["ended", "step"];
+
+// Whether a step of the wire errors decided, or a local refusal.
+const isRefused = ({ ended, step }) => step !== undefined || Boolean(ended?.startsWith("refused"));
 
 function factsOf(facts) {
   const told = Object.entries(facts).filter(([name]) => name !== "outcome" && !FOR_PROGRAMS.includes(name));

@@ -13,6 +13,7 @@ import tempfile
 from concurrent.futures import ThreadPoolExecutor
 from functools import lru_cache
 from pathlib import Path
+from random import Random, SystemRandom
 
 from browser import Broken, Browser
 
@@ -20,6 +21,7 @@ TOP = Path(__file__).resolve().parent.parent.parent
 READ = "05 10 00 01 00 EA"
 WRITE = "05 20 00 02 01 66 72"
 WRITE_READ_ONLY = "05 20 00 05 00 00 00 00 00 D6"
+SEED = SystemRandom().randrange(1 << 30)
 
 
 class Wrong(Exception):
@@ -312,6 +314,48 @@ def the_questions_are_told_as_by_whatif(page):
     return "%d questions, %d calls" % (len(native), sum(len(facts) for _, _, facts in native))
 
 
+# ---- Random calls, on the page and by whatif ----
+
+COMMANDS = bytes.fromhex("00 02 04 06 08 0C 10 12 20 22 24 26 28 30 32 40 41 50 7F")
+RANDOM_LINES = 1500  # on each board
+ASK_ALL = "(([board, lines]) => { ask('begin', board); return lines.map((line) => ask('tell_summed', line).facts); })(%s)"
+
+
+def random_line(random):
+    """A packet without its checksum, most of them of a right form, or a call of the board's own."""
+    some = lambda most: bytes(random.choice((0, 1, 2, 3, 0x54, random.randrange(256))) for _ in range(random.randrange(most)))
+    if random.randrange(8) == 0:
+        return random.choice(("store %d %s", "read signed %d %s", "read unsigned %d %s", "result %d due gave %s")) % (random.randrange(3), some(5).hex())
+    payload = some(9)
+    size = len(payload) + (random.randrange(20) == 0)
+    return bytes([random.choice((5, 5, 5, 5, 6, 0xF8, 0xFF)), random.choice(COMMANDS), 0, size, *payload]).hex(" ")
+
+
+@lru_cache(maxsize=None)
+def random_by_whatif(whatif, seed):
+    """Boards, each with random lines and what whatif says of them."""
+    random, found = Random(seed), []
+    for path in (TOP / "docs/boards/a.board", TOP / "docs/boards/two-curves.board", TOP / "docs/boards/numbers.board"):
+        lines = [random_line(random) for _ in range(RANDOM_LINES)]
+        command = [*whatif, "--board", str(path), "--sum", "--json"]
+        done = subprocess.run(command, input="\n".join(lines), capture_output=True, text=True, timeout=120)
+        holds("whatif: " + done.stderr, done.returncode == 0)
+        found.append((path.read_text(), lines, [json.loads(line) for line in done.stdout.splitlines()]))
+    return found
+
+
+def random_calls_are_told_as_by_whatif(page):
+    outcomes = set()
+    for board, lines, native in random_by_whatif(page.whatif, SEED):
+        on_page = page.browser.value(ASK_ALL % json.dumps([board, lines]))
+        is_same("how many", len(on_page), len(native))
+        for line, one, other in zip(lines, on_page, native):
+            is_same("%s, seed %d" % (line, SEED), one, other)
+        outcomes |= {facts["outcome"].split(",")[0] for facts in native}
+    holds("too few sorts of outcomes: %s" % outcomes, len(outcomes) > 20)
+    return "%d calls, seed %d, %d sorts of outcomes" % (3 * RANDOM_LINES, SEED, len(outcomes))
+
+
 # Each with an edit of the page that it must not pass: the file, the text that is changed and what it is changed to.
 TESTS = [
     (says_what_it_is, "page.html", "compiled elsewhere and tested", "proved elsewhere"),
@@ -328,6 +372,7 @@ TESTS = [
     (a_reply_is_decoded, "wasm", b"checksum should be", b"checksum could be "),
     (it_fits_a_telephone, "page.css", "button {\n  min-height: 2.75rem;", "button {\n  min-height: 2rem;"),
     (the_questions_are_told_as_by_whatif, "wasm", b"is read-only", b"is read.only"),
+    (random_calls_are_told_as_by_whatif, "wasm", b"value of a variable", b"value of variables!"),
 ]
 
 
