@@ -78,7 +78,7 @@ pub fn function_result<'reply>(
             values.len(),
             blocks.as_ptr(),
             blocks.len(),
-            function.0 as u64,
+            function.0,
             due,
             failed,
             error,
@@ -114,7 +114,7 @@ pub fn board_store(
             values.len(),
             blocks.as_ptr(),
             blocks.len(),
-            variable.0 as u64,
+            variable.0,
             bytes.as_ptr(),
             bytes.len(),
         )
@@ -173,12 +173,12 @@ pub fn write_unsigned(
 
 // One of the two readings.
 fn read<T>(
-    entry: unsafe extern "C" fn(*const Variable, usize, u64, *const u8, usize) -> T,
+    entry: unsafe extern "C" fn(*const Variable, usize, usize, *const u8, usize) -> T,
     variables: &[Variable],
     variable: VariableNumber,
     bytes: &[u8],
 ) -> T {
-    let (number, count) = (variable.0 as u64, variables.len());
+    let (number, count) = (variable.0, variables.len());
     // SAFETY: as for `packet`.
     unsafe {
         entry(
@@ -193,7 +193,7 @@ fn read<T>(
 
 // One of the two ways back.
 fn write<N>(
-    entry: unsafe extern "C" fn(*const Variable, usize, u64, N, *mut u8, usize) -> u8,
+    entry: unsafe extern "C" fn(*const Variable, usize, usize, N, *mut u8, usize) -> u8,
     variables: &[Variable],
     variable: VariableNumber,
     number: N,
@@ -204,7 +204,7 @@ fn write<N>(
         entry(
             variables.as_ptr(),
             variables.len(),
-            variable.0 as u64,
+            variable.0,
             number,
             buffer.as_mut_ptr(),
             buffer.len(),

@@ -120,12 +120,12 @@ pub enum Outcome<'packet, 'reply> {
 
 impl<'packet, 'reply> Outcome<'packet, 'reply> {
     pub(crate) fn told(told: Told, packet: &'packet [u8], reply: &'reply [u8]) -> Self {
-        let (input, length) = (told.input as usize, told.length as usize);
+        let (input, length) = (told.input, told.length);
         match told.kind {
             Told::REPLY => Outcome::Reply(&reply[..length]),
             Told::SILENCE => Outcome::Silence,
             Told::RUN => Outcome::Run {
-                function: FunctionNumber(told.function as usize),
+                function: FunctionNumber(told.function),
                 input: &packet[input..input + length],
                 due: told.due,
             },
