@@ -2,16 +2,19 @@
 """Writes proofs/NAME.antt: the walk of every thin entry of one shape, over the MIR of
 
   fn entry(P..) -> OUT {
-      let t = TABLE(vars);               // the parameter of kind `records`, a lent slice of structs
+      let mut c = [0u8; 64];             // one `let` for each column
+      let n = TABLE(vars, &mut c..);     // the parameter of kind `records`, a lent slice of structs, stored into the columns
       let g = *groups; let v = *view;    // one `let` for each `state` (&mut S) and `view` (&S), in the parameters' order
-      let r = work(W..);                 // t, g, v in the place of vars, groups, view; slices and plain values as they came
+      let r = work(W..);                 // n, &c.. in the place of vars, and g, v in the place of groups, view; slices and plain values as they came
       *groups = r.groups;                // one store for each `state`, in the parameters' order
       r.out                              // with no `state`: the body ends in `work(W..)`, and its result is the entry's
   }
 
+The columns are lent twice, as `&mut` and as `&`, each time for lifetimes that the walk makes and ends (the module lending).
 Nothing here is trusted: the prover checks what is written. usage: gen_thin.py BOARD.json CRATE/NAME.json > crates/CRATE/proofs/NAME.antt
-BOARD: types {type: the crate that declares it}; table {fn, walk, spec, read, table, uses}: `spec` gives the table of the lent records, `read` the records that a table says;
-       fn, and the module walk, with the crate that has them; uses as CRATE:specs.Module.{names}.
+BOARD: types {type: the crate that declares it}; table {fn, walk, lending, table, by, count, columns, places, zeros, spec, read, uses}: the type of a table, `by` that makes one of its count and
+       columns, with the fields' names; how many places a column has, and how one of zeros is written; `spec` gives the table of the lent records, `read` the records that a table says;
+       fn, and the modules walk and lending, with the crate that has them; uses as CRATE:specs.Module.{names}.
 SHAPE: out [kind, type]; params [[name, kind, type]], kind: records | mut | shr | state | view | int | bool | struct;
        work [the parameters' names in the callee's order] where it is another;
        answer {type, out [field, number], NAME [field, number] of each state} where there are states;
@@ -286,17 +289,25 @@ fld_of = lambda p: f"(tbl .{p['name']})"; ctok = lambda p: f"(token (ls .{p['nam
 lftof = lambda p: f"lft (ls .{p['name']})" if p in columns else "κ-" + p["name"]
 def cref(p, x): return f"ref (bs .{p['name']}) (ls .{p['name']}) {x}"
 def cval(p): return f"vptr (bs .{p['name']}) 0"
-LS = "(bs : Places) (ls : Loans)"; TOKENS = "Tokens 𝓤 H A W bs ls"; TT = "(to-table bs ls)"; TPRE = f"TableOf 𝓤 H A at-mem run .pre {TT}"; TPOST = f"TableOf 𝓤 H A at-mem run .post {TT} u"
-def each(what, x): return f"Each 𝓤 H A W bs {what} {x} ls"
+# what speaks of the columns takes where they are and their loans: in the lemmas these are bs and ls, in the walk the locals and the loans that are made there
+LS = "(bs : Places) (ls : Loans)"; LEMMA = ("bs", "ls")
+def tokens(at): return f"Tokens 𝓤 H A W {at[0]} {at[1]}"
+def each(what, x, at): return f"Each 𝓤 H A W {at[0]} {what} {x} {at[1]}"
+def to(what, at): return f"(to-{what} {at[0]} {at[1]})"
+def table_pre(at): return f"TableOf 𝓤 H A at-mem run .pre {to('table', at)}"
+def table_left(at): return f"‵ {tok(rec)} ⊛ {tokens(at)} ⊛ {each('last', 'tbl', at)}"
+def work_pre(at): return f"Work 𝓤 H A {TO} .pre {to('work', at)}"
+def work_left(at): return f"({tokens(at)} ⊛ Had y)"
+TT = to("table", LEMMA); TPOST = f"TableOf 𝓤 H A at-mem run .post {TT} u"
 lastj = lambda p: f"(ws{proj(1 + columns.index(p))})"
-TFACT = f"{t['by']} r {' '.join(lastj(p) for p in columns)} ≡ tbl"; TOLD = f"(u ≡ {RC.mach(fld_of(count))}) × Counted"; THAD = f"‵ {tok(rec)} ⊛ {TOKENS} ⊛ {each('last', 'tbl')}"
+TFACT = f"{t['by']} r {' '.join(lastj(p) for p in columns)} ≡ tbl"; TOLD = f"(u ≡ {RC.mach(fld_of(count))}) × Counted"
 w("  -- ---- the records in the slice, as numbers")
 w(f"  abbrev tbl : {t['table']}"); w(f"  tbl = {t['spec']} (now {r0})"); w()
 w("  abbrev Counted : Type 0"); w(f"  Counted = {fld_of(count)} < 2 ^ 64"); w()
 w("  -- with the locals in which the columns are, and their loans"); w("  abbrev to-table : Places → Loans → TableOf 𝓤 H A at-mem run .Ghost")
 w(f"  to-table bs ls = (({tup(['κ-' + r0] + [lftof(p) for p in columns])}, {tup(['q-' + r0] + ['fullShare'] * len(columns))}, tt, {tup([r0] + [cref(p, t['zeros']) for p in columns])}, {tup([f'slice {r0} ∷ []'] + [cval(p) + ' ∷ []' for p in columns])}), tt)"); w()
-ctx = f"‵ O-{r0} ∷ ‵ {tok(rec)} ∷ {TOKENS} ∷ {each('byMut', 'blanks')} ∷ []"
-w(f"  goes-table : {LS} → ent 𝓤 (⋆ 𝓤 H A ({ctx})) (sep 𝓤 ({TPRE}) (sem 𝓤 H A O-{r0}))"); w("  goes-table bs ls =")
+ctx = f"‵ O-{r0} ∷ ‵ {tok(rec)} ∷ {tokens(LEMMA)} ∷ {each('byMut', 'blanks', LEMMA)} ∷ []"
+w(f"  goes-table : {LS} → ent 𝓤 (⋆ 𝓤 H A ({ctx})) (sep 𝓤 ({table_pre(LEMMA)}) (sem 𝓤 H A O-{r0}))"); w("  goes-table bs ls =")
 cx = Cx([f"O-{r0}", f"t-{r0}", "lent-tokens", "lent-columns"], "      ")
 cx.step(f"use1 W (‵ O-{r0} ⊛ ‵ O-{r0}) (shr-slice-copy 𝓤 H A W (named {rec['lft']}) κ-{r0} {RE.row} .twice {r0} (slice {r0} ∷ []))"); cx.split(f"O-{r0}", "copy")
 splits(cx.move("lent-tokens"), [f"t-{p['name']}" for p in columns]); splits(cx.move("lent-columns"), [f"O-{p['name']}" for p in columns])
@@ -304,7 +315,7 @@ tn = [r0] + [p["name"] for p in columns]
 cx.nothing(); cx.move(*([f"O-{n}" for n in tn] + ["true"])); cx.group(len(tn) + 1, "owns"); cx.nothing(); cx.move(*([f"t-{n}" for n in tn] + ["true"])); cx.group(len(tn) + 1, "toks"); cx.group(2, "entry")
 cx.nothing(); cx.move("entry", "true"); cx.group(2, "pre"); cx.move("pre", "copy")
 w(f"      qed W ({ctx}) ∵"); w(cx.text("done !")); w()
-w(f"  told-table : {LS} (u : Val) → ent 𝓤 ({TPOST}) (H .⇛ (guard 𝓤 ({TOLD}) (mean 𝓤 H A ({THAD}))))"); w("  told-table bs ls u =")
+w(f"  told-table : {LS} (u : Val) → ent 𝓤 ({TPOST}) (H .⇛ (guard 𝓤 ({TOLD}) (mean 𝓤 H A ({table_left(LEMMA)}))))"); w("  told-table bs ls u =")
 w(f"      qed W (raw ({TPOST}) ∷ []) ∵ updating ! $")
 w(f"      use1 W (later (some (λ (r : ℕ). (({' ⊛ '.join(['‵ ' + tok(rec)] + ['‵ ' + ctok(p) for p in columns] + ['‵ ftrue'])}) ⊛ ‵ ({RC.row} .own r (u ∷ [])))")
 w(f"      ⊛ some (λ (ws : Lasts table-of.ended ({TT} .0 .0) ({TT} .0 .3)). ‵ (lasts table-of.ended ({TT} .0 .0) ({TT} .0 .3) ws) ⊛ raw (fact 𝓤 ({TFACT})))))) (id⊢ 𝓤 _) $ await ! tt $ pick ! (λ r.")
@@ -323,17 +334,16 @@ wv = lambda p: RC.mach(fld_of(p)) if p is count else cval(p) if p in columns els
 targs = " ".join(f"({t['read']} tbl)" if p is rec else f"(now {p['name']})" if p in wrefs else wa(p) for p in tk)
 lawargs = " ".join(f"(now {p['name']})" if p in wrefs or p is rec else wa(p) for p in tk)
 w("  -- ---- the work"); w(f"  abbrev turn : {sd['turn']}"); w(f"  turn = turnOf {targs}"); w()
-TW = "(to-work bs ls)"
-goal = f"Work 𝓤 H A {TO} .pre {TW}"
+TW = to("work", LEMMA)
 w(f"  abbrev to-work : Places → Loans → Work 𝓤 H A {TO} .Ghost")
 w(f"  to-work bs ls = (({tup([lftof(p) for p in lent])}, {tup(['fullShare' if p in columns else 'q-' + p['name'] for p in lent])}, tt, {tup([wa(p) for p in wk])}, {tup([wv(p) + ' ∷ []' for p in wk])}), tt)"); w()
 had0 = ["lent-tokens", "lent-columns"] + [f"O-{p['name']}" for p in wrefs] + [f"t-{p['name']}" for p in wrefs]
-fm = {"lent-tokens": TOKENS, "lent-columns": each("shared", "tbl")}
+fm = {"lent-tokens": tokens(LEMMA), "lent-columns": each("shared", "tbl", LEMMA)}
 fm.update({f"O-{p['name']}": f"‵ O-{p['name']}" for p in wrefs}); fm.update({f"t-{p['name']}": f"‵ {tok(p)}" for p in refs})
 copies = " ⊛ ".join(f"‵ O-{p['name']}" for p in shrs)
 hyps = ["Counted"] + [p["R"].is_(f"h-{p['name']}") for p in reads]
 hnames = ["bs", "ls", "counted"] + [f"was-{p['name']}" for p in reads]
-w(f"  goes-work : {LS} → {''.join(h + ' → ' for h in hyps)}ent 𝓤 (⋆ 𝓤 H A ({lst([fm[x] for x in had0])})) " + (f"(sep 𝓤 ({goal}) (mean 𝓤 H A ({copies})))" if shrs else f"({goal})"))
+w(f"  goes-work : {LS} → {''.join(h + ' → ' for h in hyps)}ent 𝓤 (⋆ 𝓤 H A ({lst([fm[x] for x in had0])})) " + (f"(sep 𝓤 ({work_pre(LEMMA)}) (mean 𝓤 H A ({copies})))" if shrs else f"({work_pre(LEMMA)})"))
 w(f"  goes-work {' '.join(hnames)} =".replace("  =", " ="))
 cx = Cx(had0, "      ")
 splits(cx.move("lent-tokens"), [f"t-{p['name']}" for p in columns]); splits(cx.move("lent-columns"), [f"O-{p['name']}" for p in columns])
@@ -360,8 +370,8 @@ hadF = [f"‵ {tok(p)}" for p in wrefs] + [f"‵ (finally {p['ty']} ({p['name']}
 w("  abbrev Had : Ans → Item 𝓤"); w("  Had y = " + (" ⊛ ".join(hadF) or "‵ ftrue")); w()
 wsj = lambda p: f"(ws{proj(wk.index(p))})"
 fct = says("work", "turn", "r", {p["name"]: wsj(p) for p in muts})
-LEFT = f"({TOKENS} ⊛ Had y)"; wtok = lambda p: ctok(p) if p in columns else tok(p)
-w(f"  told-work : {LS} (u : Val) → ent 𝓤 (Work 𝓤 H A {TO} .post {TW} u) (H .⇛ (ex 𝓤 (λ (y : Ans). guard 𝓤 (Known u y) (mean 𝓤 H A {LEFT}))))")
+wtok = lambda p: ctok(p) if p in columns else tok(p)
+w(f"  told-work : {LS} (u : Val) → ent 𝓤 (Work 𝓤 H A {TO} .post {TW} u) (H .⇛ (ex 𝓤 (λ (y : Ans). guard 𝓤 (Known u y) (mean 𝓤 H A {work_left(LEMMA)}))))")
 w("  told-work bs ls u ="); w(f"      qed W (raw (Work 𝓤 H A {TO} .post {TW} u) ∷ []) ∵ updating ! $")
 w(f"      use1 W (later (some (λ (r : {RD.D}). (({' ⊛ '.join(['‵ ' + wtok(p) for p in lent] + ['‵ ftrue'])}) ⊛ ‵ ({RD.row} .own r (u ∷ [])))")
 w(f"      ⊛ some (λ (ws : Lasts work-ended ({TW} .0 .0) ({TW} .0 .3)). ‵ (lasts work-ended ({TW} .0 .0) ({TW} .0 .3) ws) ⊛ raw (fact 𝓤 ({fct})))))) (id⊢ 𝓤 _) $ await ! tt $ pick ! (λ r.")
@@ -373,7 +383,7 @@ for p in wk:
     else: cx.drop()
 cx.drop(); cx.move("tokans").split("toks", "ans"); cx.move("ans"); cx.step(f"facts ! {RD.sh()} r (u ∷ []) (λ is. ⟪"); cx.c.pop(0); par += 1
 splits(cx, [f"t-{p['name']}" for p in lent] + ["true"]); cx.move(*[f"t-{p['name']}" for p in columns]); cx.group(len(columns), "lent-tokens")
-cx.step("at-once !"); cx.step(f"show ! (λ (y : Ans). guard 𝓤 (Known u y) (mean 𝓤 H A {LEFT})) (r, {tup([wsj(p)[1:-1] for p in muts])})")
+cx.step("at-once !"); cx.step(f"show ! (λ (y : Ans). guard 𝓤 (Known u y) (mean 𝓤 H A {work_left(LEMMA)})) (r, {tup([wsj(p)[1:-1] for p in muts])})")
 cx.step(f"check ! (record {{ val = ap only ({RD.tells} r (u ∷ []) is); is = subst (Is {RD.row} r) ({RD.tells} r (u ∷ []) is) is; said = e" + "".join(f"; len-{p['name']} = len-{p['name']}" for p in muts) + " })")
 cx.keep("lent-tokens", *(hadN or ["true"])); w(cx.text("done !" + ")" * par)); w()
 fst = {p["name"]: f"(y .0 .{a[p['name']][0]})" for p in sts}
@@ -384,9 +394,9 @@ if not DIRECT:
 yo = "(y .0)" if DIRECT else f"(y .0 .{a['out'][0]})"; yois = "(e .is)" if DIRECT else "(out-is (y .0) (e .is))"
 ex0 = []; exF = {}
 for p in reads: n = p["name"]; ex0 += [f"obs-{n}", f"bor-{n}", f"t-{n}"]; exF.update({f"obs-{n}": f"‵ (Obs-{n} {fst[n] if p in sts else 'h-' + n})", f"bor-{n}": f"‵ Bor-{n}", f"t-{n}": f"‵ {tok(p)}"})
-ex0 += ["had"] + (["copies"] if shrs else []) + ([f"t-{r0}", f"O-{r0}"] if rec else [])
+ex0 += ["had"] + (["copies"] if shrs else []) + [f"t-{r0}", f"O-{r0}"]
 exF.update({"had": "Had y", "copies": f"({copies})"})
-if rec: exF.update({f"t-{r0}": f"‵ {tok(rec)}", f"O-{r0}": f"‵ O-{r0}"})
+exF.update({f"t-{r0}": f"‵ {tok(rec)}", f"O-{r0}": f"‵ O-{r0}"})
 exI = lst([exF[n] for n in ex0])
 w(f"  exits : (u : Val) (y : Ans) → Known u y → ent 𝓤 (⋆ 𝓤 H A ({exI})) (Post ({RO.mach(yo)}))"); w("  exits u y e =")
 lastv = lambda p: fins("y", p) if p in muts else fst[p["name"]] if p in sts else "tt"
@@ -404,7 +414,7 @@ cx.nothing(); cx.move(*([f"t-{p['name']}" for p in refs] + ["true"])); cx.group(
 cx.nothing("true2"); cx.move(*([("f-" if p in muts else "O-") + p["name"] for p in P] + ["true2"])); cx.group(NP + 1, "has"); cx.owned(RO.own(yo, yois), "res"); cx.keep("has", "res")
 w(cx.text("done !")); w()
 # ---------------------------------------------------------------- the walk
-w(f"  module _ (C : Calls 𝓤 H) (Λ : Loops 𝓤 H) (fm : FmC 𝓤 H (W .laws) C)" + (" (known-table : Triple 𝓤 (C kt) (TableOf 𝓤 H A at-mem run))" if rec else "") + f" (known-work : Triple 𝓤 (C kc) (Work 𝓤 H A {TO})) where")
+w(f"  module _ (C : Calls 𝓤 H) (Λ : Loops 𝓤 H) (fm : FmC 𝓤 H (W .laws) C)" + f" (known-table : Triple 𝓤 (C kt) (TableOf 𝓤 H A at-mem run)) (known-work : Triple 𝓤 (C kc) (Work 𝓤 H A {TO})) where")
 room = lambda p: f"Room {p['row']} (length (now {p['name']}))"
 margs = lst([val(p) for p in P]); wh = [room(p) for p in sl]
 w(f"    walk : {''.join(x + ' → ' for x in wh)}ent 𝓤 (onEntry 𝓤 H A signature (bound .0 .0) (bound .0 .1) a at) (WpFn 𝓤 H C Λ (function {KT}) ({margs}) Post)")
@@ -439,28 +449,26 @@ def landed(x, R, v, eq, p):
     cx.step(f"land ! (from ! (stop !)) (init ! {at(x)} refl (subst (λ (w : Val). Holds (hasTy {R.mir} w) × WT w) (sym {eq}) {R.typed(v, p)}))")
     cx.step(f"rewrite ! {at(x)} (λ (w : Val). ‵ (fat fullShare {R.mir} l-{loc[x]} 0 w)) {eq} refl"); flush()
 note()
-C3 = [f"_{loc['#c' + p['name']]}" for p in columns]; BS = "(places " + " ".join(f"l-{loc['#c' + p['name']]}" for p in columns) + ")"
-def placed(x): return re.sub(r"(?<![\w.])bs(?![\w])", BS, x)
-def lends(law, gives, keeps, x, are, name):
-    """the three columns' cells go out, as `gives`, under loans that are made"""
+C3 = [f"_{loc['#c' + p['name']]}" for p in columns]; BS = "(places " + " ".join(f"l-{loc['#c' + p['name']]}" for p in columns) + ")"; FIRST = (BS, "ls"); SECOND = (BS, "ls′")
+def lends(law, gives, keeps, x, are, at):
+    """the columns' cells go out, as `gives`, under loans that are made"""
     global par
-    cx.move(*C3); cx.group(3, "cells"); flush()
-    w(I + placed(f"use1 W (later (some (λ (ls : Loans). {TOKENS} ⊛ {each(gives, x)} ⊛ {each(keeps, x)}))) ({law} 𝓤 H A W bs {x} {are}) $ await ! tt $ pick ! (λ {name}.")); par += 1
+    cx.move(*C3); cx.group(len(C3), "cells"); flush(); any_at = (BS, "l")
+    w(I + f"use1 W (later (some (λ (l : Loans). {tokens(any_at)} ⊛ {each(gives, x, any_at)} ⊛ {each(keeps, x, any_at)}))) ({law} 𝓤 H A W {BS} {x} {are}) $ await ! tt $ pick ! (λ {at[1]}."); par += 1
     cx.c[0] = "loan"; splits(cx, ["lent-tokens", "lent-columns", "kept"]); flush()
-def comes_back(law, xs, name, are):
+def comes_back(law, xs, at, are):
     """they come back, and all locals to the front"""
     global par
     cx.move(*xs); cx.group(len(xs), "loan"); flush()
-    w(I + placed(f"use1 W (later (given (AreColumns tbl) (Cells 𝓤 H A W bs tbl))) ({law} 𝓤 H A W bs tbl {name}) $ await ! tt $ learn ! (λ {are}.")); par += 1
+    w(I + f"use1 W (later (given (AreColumns tbl) (Cells 𝓤 H A W {BS} tbl))) ({law} 𝓤 H A W {BS} tbl {at[1]}) $ await ! tt $ learn ! (λ {are}."); par += 1
     cx.c[0] = "cells"; splits(cx, C3); cx.move(*LOC)
-def under(x, name): return placed(re.sub(r"(?<![\w.])ls(?![\w])", name, x))
 for p in columns: cx.step(f"assigns ! (rep ! {t['places']} (lit ! tt)) (from ! (stop !)) (init ! {at('#c' + p['name'])} refl (blank-typed 𝓤 H A W))"); flush()
 for p in columns: cx.step(f"assigns ! (addr ! (from ! (stop !))) (from ! (stop !)) (init ! {at('#m' + p['name'])} refl (tt, tt))"); flush()
-lends("lends-mut", "byMut", "keptMut", "blanks", "blanks-are", "ls")
-cx.move(f"O-{r0}", f"t-{r0}", "lent-tokens", "lent-columns"); cx.group(4, "x"); cx.step(placed(f"use1 W (raw ({TPRE}) ⊛ ‵ O-{r0}) (goes-table bs ls)")); cx.split("pre", f"O-{r0}"); flush(); note()
-w(I + placed(f"calls-at ! fm (TableOf 𝓤 H A at-mem run) known-table {TT} {opds(targ)} (λ u.")); par += 1
-w(I + placed(f"use1 W (later (given ({TOLD}) ({THAD}))) (told-table bs ls u) $ await ! tt $ learn ! (λ is.")); par += 1
-cx.c[0] = "left"; splits(cx, [f"t-{r0}", "lent-tokens", "last"]); comes_back("mut-back", ["lent-tokens", "kept", "last"], "ls", "are")
+lends("lends-mut", "byMut", "keptMut", "blanks", "blanks-are", FIRST)
+cx.move(f"O-{r0}", f"t-{r0}", "lent-tokens", "lent-columns"); cx.group(4, "x"); cx.step(f"use1 W (raw ({table_pre(FIRST)}) ⊛ ‵ O-{r0}) (goes-table {BS} ls)"); cx.split("pre", f"O-{r0}"); flush(); note()
+w(I + f"calls-at ! fm (TableOf 𝓤 H A at-mem run) known-table {to('table', FIRST)} {opds(targ)} (λ u."); par += 1
+w(I + f"use1 W (later (given ({TOLD}) ({table_left(FIRST)}))) (told-table {BS} ls u) $ await ! tt $ learn ! (λ is."); par += 1
+cx.c[0] = "left"; splits(cx, [f"t-{r0}", "lent-tokens", "last"]); comes_back("mut-back", ["lent-tokens", "kept", "last"], FIRST, "are")
 landed("#n", RC, fld_of(count), "(is .0)", "is"); note()
 for p in reads:
     n = p["name"]; R = p["R"]; m = R.mach(f"h-{n}")
@@ -479,16 +487,15 @@ for p in muts:
     n = p["name"]
     cx.step(f"assigns ! (addr ! (from ! (fld ! refl (hop ! (look-in ! {at(n)} (sub ! 0 refl (whole !))) (stop !))))) (from ! (stop !)) (init ! {at('#p' + n)} refl (tt, tt))"); flush()
     cx.step(f"assigns ! (agg ! (and-then ! {ld('#p' + n)} (and-then ! (load ! (from ! (fld ! refl (stop !))) (look-in ! {at(n)} (sub ! 1 refl (whole !)))) (no-more !)))) (from ! (stop !)) (init ! {at('#s' + n)} refl {fits(p)})"); flush()
-LS2 = "ls′"; lends("lends-shared", "shared", "keptShared", "tbl", "are", LS2)
-goal = under(goal, LS2); gw = under(" ".join(["goes-work bs ls", "(is .1)"] + [f"was-{p['name']}" for p in reads]), LS2)
-if had0: cx.move(*had0); cx.group(len(had0), "x"); cx.step(f"use1 W (raw ({goal}){' ⊛ ' + copies if shrs else ''}) ({gw})")
-else: cx.owned(f"use0 W (raw ({goal})) ({gw})", "x")
+lends("lends-shared", "shared", "keptShared", "tbl", "are", SECOND)
+gw = " ".join([f"goes-work {BS} ls′ (is .1)"] + [f"was-{p['name']}" for p in reads])
+cx.move(*had0); cx.group(len(had0), "x"); cx.step(f"use1 W (raw ({work_pre(SECOND)}){' ⊛ ' + copies if shrs else ''}) ({gw})")
 if shrs: cx.split("pre", "copies")
 else: cx.c[0] = "pre"
 flush(); note()
-w(I + f"calls-at ! fm (Work 𝓤 H A {TO}) known-work {under(TW, LS2)} {opds([arg(p) for p in wk])} (λ u′."); par += 1
-w(I + under(f"use1 W (later (some (λ (y : Ans). given (Known u′ y) {LEFT}))) (told-work bs ls u′) $ await ! tt $ pick ! (λ y. learn ! (λ e.", LS2)); par += 2
-cx.c[0] = "left"; splits(cx, ["lent-tokens", "had"]); comes_back("shared-back", ["lent-tokens", "kept"], LS2, "_"); landed("#r", RD, "(y .0)", "(e .val)", "(e .is)"); note()
+w(I + f"calls-at ! fm (Work 𝓤 H A {TO}) known-work {to('work', SECOND)} {opds([arg(p) for p in wk])} (λ u′."); par += 1
+w(I + f"use1 W (later (some (λ (y : Ans). given (Known u′ y) {work_left(SECOND)}))) (told-work {BS} ls′ u′) $ await ! tt $ pick ! (λ y. learn ! (λ e."); par += 2
+cx.c[0] = "left"; splits(cx, ["lent-tokens", "had"]); comes_back("shared-back", ["lent-tokens", "kept"], SECOND, "_"); landed("#r", RD, "(y .0)", "(e .val)", "(e .is)"); note()
 fl = lambda i: f"(of-opd ! (load ! (from ! (fld ! refl (stop !))) (look-in ! {at('#r')} (sub ! {i} refl (whole !)))))"
 for p in sts:
     n = p["name"]; cx.step(f"assigns ! {fl(a[n][1])} (from ! (hop ! (look ! {at(n)} refl) (stop !))) (store-raw ! {cx.pos('cell-' + n)} refl {p['R'].typed(fst[n], f'({n}-is (y .0) (e .is))')})"); flush()
@@ -501,9 +508,8 @@ cx.step("returns ! (look ! 0 refl)")
 for i in range(N): cx.step(f"forget ! {2 * i} refl")
 flush(); cx.s = ["free1 !"] * N + ["free0 !"]; cx.c = cx.c[2 * N:]; cx.keep(*ex0); w(cx.text("by ! (exits u′ y e)" + ")" * par)); w()
 # ---------------------------------------------------------------- to the contract
-KN = (" (𝓣 .C kt) (TableOf 𝓤 H A at-mem run)" if rec else "")
 w(HEAD + " where")
-trT = "Triple 𝓤 (C kt) (TableOf 𝓤 H A at-mem run) → " if rec else ""; kn = "known-table known-work" if rec else "known-work"
+trT = "Triple 𝓤 (C kt) (TableOf 𝓤 H A at-mem run) → "; kn = "known-table known-work"
 w(f"  f-walks : (C : Calls 𝓤 H) (Λ : Loops 𝓤 H) → FmC 𝓤 H (W .laws) C → {trT}Triple 𝓤 (C kc) (Work 𝓤 H A {TO}) → Walks 𝓤 H A ended stayed (WpFn 𝓤 H C Λ (function {KT})) (clauses {TO} 𝓤)")
 kj = lambda p: f"(κs{proj(p['lft'])})"
 TELL = {"records": "shr-slice-tells", "shr": "shr-slice-tells", "mut": "mut-slice-tells", "state": "mut-tells", "view": "shr-tells"}

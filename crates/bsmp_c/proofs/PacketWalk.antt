@@ -254,7 +254,7 @@ module _ (turnOf : TurnOf) (agree : Agree turnOf) (kt kc : Name) {M : Type 1} (�
         assigns ! (addr ! (from ! (stop !))) (from ! (stop !)) (init ! 38 refl (tt, tt)) $
         assigns ! (addr ! (from ! (stop !))) (from ! (stop !)) (init ! 40 refl (tt, tt)) $
         move ! (24 ∷ 26 ∷ 28 ∷ []) $ group ! 3 $
-        use1 W (later (some (λ (ls : Loans). Tokens 𝓤 H A W (places l-12 l-13 l-14) ls ⊛ Each 𝓤 H A W (places l-12 l-13 l-14) byMut blanks ls ⊛ Each 𝓤 H A W (places l-12 l-13 l-14) keptMut blanks ls))) (lends-mut 𝓤 H A W (places l-12 l-13 l-14) blanks blanks-are) $ await ! tt $ pick ! (λ ls.
+        use1 W (later (some (λ (l : Loans). Tokens 𝓤 H A W (places l-12 l-13 l-14) l ⊛ Each 𝓤 H A W (places l-12 l-13 l-14) byMut blanks l ⊛ Each 𝓤 H A W (places l-12 l-13 l-14) keptMut blanks l))) (lends-mut 𝓤 H A W (places l-12 l-13 l-14) blanks blanks-are) $ await ! tt $ pick ! (λ ls.
         split ! $ move ! (1 ∷ []) $ split ! $
         move ! (60 ∷ 69 ∷ 2 ∷ 0 ∷ []) $ group ! 4 $ use1 W (raw (TableOf 𝓤 H A at-mem run .pre (to-table (places l-12 l-13 l-14) ls)) ⊛ ‵ O-variables) (goes-table (places l-12 l-13 l-14) ls) $ split ! $
         -- [pre; O-variables; kept; the locals; O-curves; O-functions; obs-groups; bor-groups; O-values; O-blocks; O-request; O-reply; t-curves; t-functions; t-groups; t-values; t-blocks; t-request; t-reply]
@@ -278,7 +278,7 @@ module _ (turnOf : TurnOf) (agree : Agree turnOf) (kt kc : Name) {M : Type 1} (�
         assigns ! (addr ! (from ! (fld ! refl (hop ! (look-in ! 22 (sub ! 0 refl (whole !))) (stop !))))) (from ! (stop !)) (init ! 56 refl (tt, tt)) $
         assigns ! (agg ! (and-then ! (load ! (from ! (stop !)) (look ! 56 refl)) (and-then ! (load ! (from ! (fld ! refl (stop !))) (look-in ! 22 (sub ! 1 refl (whole !)))) (no-more !)))) (from ! (stop !)) (init ! 58 refl (tt, (tt, (record { fits = g-reply .0 }, tt)))) $
         move ! (24 ∷ 26 ∷ 28 ∷ []) $ group ! 3 $
-        use1 W (later (some (λ (ls : Loans). Tokens 𝓤 H A W (places l-12 l-13 l-14) ls ⊛ Each 𝓤 H A W (places l-12 l-13 l-14) shared tbl ls ⊛ Each 𝓤 H A W (places l-12 l-13 l-14) keptShared tbl ls))) (lends-shared 𝓤 H A W (places l-12 l-13 l-14) tbl are) $ await ! tt $ pick ! (λ ls′.
+        use1 W (later (some (λ (l : Loans). Tokens 𝓤 H A W (places l-12 l-13 l-14) l ⊛ Each 𝓤 H A W (places l-12 l-13 l-14) shared tbl l ⊛ Each 𝓤 H A W (places l-12 l-13 l-14) keptShared tbl l))) (lends-shared 𝓤 H A W (places l-12 l-13 l-14) tbl are) $ await ! tt $ pick ! (λ ls′.
         split ! $ move ! (1 ∷ []) $ split ! $
         move ! (2 ∷ 0 ∷ span 66 12) $ group ! 14 $ use1 W (raw (Work 𝓤 H A turnOf .pre (to-work (places l-12 l-13 l-14) ls′)) ⊛ ‵ O-curves ⊛ ‵ O-functions ⊛ ‵ O-request) (goes-work (places l-12 l-13 l-14) ls′ (is .1) was-groups) $ split ! $
         -- [pre; copies; kept; the locals; cell-groups; open-groups; obs-groups; auth-groups; t-variables; O-variables]

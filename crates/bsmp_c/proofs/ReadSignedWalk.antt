@@ -204,7 +204,7 @@ module _ (turnOf : TurnOf) (agree : Agree turnOf) (kt kc : Name) {M : Type 1} (�
         assigns ! (addr ! (from ! (stop !))) (from ! (stop !)) (init ! 18 refl (tt, tt)) $
         assigns ! (addr ! (from ! (stop !))) (from ! (stop !)) (init ! 20 refl (tt, tt)) $
         move ! (8 ∷ 10 ∷ 12 ∷ []) $ group ! 3 $
-        use1 W (later (some (λ (ls : Loans). Tokens 𝓤 H A W (places l-4 l-5 l-6) ls ⊛ Each 𝓤 H A W (places l-4 l-5 l-6) byMut blanks ls ⊛ Each 𝓤 H A W (places l-4 l-5 l-6) keptMut blanks ls))) (lends-mut 𝓤 H A W (places l-4 l-5 l-6) blanks blanks-are) $ await ! tt $ pick ! (λ ls.
+        use1 W (later (some (λ (l : Loans). Tokens 𝓤 H A W (places l-4 l-5 l-6) l ⊛ Each 𝓤 H A W (places l-4 l-5 l-6) byMut blanks l ⊛ Each 𝓤 H A W (places l-4 l-5 l-6) keptMut blanks l))) (lends-mut 𝓤 H A W (places l-4 l-5 l-6) blanks blanks-are) $ await ! tt $ pick ! (λ ls.
         split ! $ move ! (1 ∷ []) $ split ! $
         move ! (28 ∷ 30 ∷ 2 ∷ 0 ∷ []) $ group ! 4 $ use1 W (raw (TableOf 𝓤 H A at-mem run .pre (to-table (places l-4 l-5 l-6) ls)) ⊛ ‵ O-variables) (goes-table (places l-4 l-5 l-6) ls) $ split ! $
         -- [pre; O-variables; kept; the locals; O-bytes; t-bytes]
@@ -218,7 +218,7 @@ module _ (turnOf : TurnOf) (agree : Agree turnOf) (kt kc : Name) {M : Type 1} (�
         assigns ! (addr ! (from ! (stop !))) (from ! (stop !)) (init ! 24 refl (tt, tt)) $
         assigns ! (addr ! (from ! (stop !))) (from ! (stop !)) (init ! 26 refl (tt, tt)) $
         move ! (8 ∷ 10 ∷ 12 ∷ []) $ group ! 3 $
-        use1 W (later (some (λ (ls : Loans). Tokens 𝓤 H A W (places l-4 l-5 l-6) ls ⊛ Each 𝓤 H A W (places l-4 l-5 l-6) shared tbl ls ⊛ Each 𝓤 H A W (places l-4 l-5 l-6) keptShared tbl ls))) (lends-shared 𝓤 H A W (places l-4 l-5 l-6) tbl are) $ await ! tt $ pick ! (λ ls′.
+        use1 W (later (some (λ (l : Loans). Tokens 𝓤 H A W (places l-4 l-5 l-6) l ⊛ Each 𝓤 H A W (places l-4 l-5 l-6) shared tbl l ⊛ Each 𝓤 H A W (places l-4 l-5 l-6) keptShared tbl l))) (lends-shared 𝓤 H A W (places l-4 l-5 l-6) tbl are) $ await ! tt $ pick ! (λ ls′.
         split ! $ move ! (1 ∷ []) $ split ! $
         move ! (2 ∷ 0 ∷ 30 ∷ 31 ∷ []) $ group ! 4 $ use1 W (raw (Work 𝓤 H A turnOf .pre (to-work (places l-4 l-5 l-6) ls′)) ⊛ ‵ O-bytes) (goes-work (places l-4 l-5 l-6) ls′ (is .1)) $ split ! $
         -- [pre; copies; kept; the locals; t-variables; O-variables]

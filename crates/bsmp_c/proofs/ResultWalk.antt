@@ -237,7 +237,7 @@ module _ (turnOf : TurnOf) (agree : Agree turnOf) (kt kc : Name) {M : Type 1} (�
         assigns ! (addr ! (from ! (stop !))) (from ! (stop !)) (init ! 38 refl (tt, tt)) $
         assigns ! (addr ! (from ! (stop !))) (from ! (stop !)) (init ! 40 refl (tt, tt)) $
         move ! (26 ∷ 28 ∷ 30 ∷ []) $ group ! 3 $
-        use1 W (later (some (λ (ls : Loans). Tokens 𝓤 H A W (places l-13 l-14 l-15) ls ⊛ Each 𝓤 H A W (places l-13 l-14 l-15) byMut blanks ls ⊛ Each 𝓤 H A W (places l-13 l-14 l-15) keptMut blanks ls))) (lends-mut 𝓤 H A W (places l-13 l-14 l-15) blanks blanks-are) $ await ! tt $ pick ! (λ ls.
+        use1 W (later (some (λ (l : Loans). Tokens 𝓤 H A W (places l-13 l-14 l-15) l ⊛ Each 𝓤 H A W (places l-13 l-14 l-15) byMut blanks l ⊛ Each 𝓤 H A W (places l-13 l-14 l-15) keptMut blanks l))) (lends-mut 𝓤 H A W (places l-13 l-14 l-15) blanks blanks-are) $ await ! tt $ pick ! (λ ls.
         split ! $ move ! (1 ∷ []) $ split ! $
         move ! (52 ∷ 61 ∷ 2 ∷ 0 ∷ []) $ group ! 4 $ use1 W (raw (TableOf 𝓤 H A at-mem run .pre (to-table (places l-13 l-14 l-15) ls)) ⊛ ‵ O-variables) (goes-table (places l-13 l-14 l-15) ls) $ split ! $
         -- [pre; O-variables; kept; the locals; O-curves; O-functions; obs-groups; bor-groups; O-values; O-blocks; O-output; O-reply; t-curves; t-functions; t-groups; t-values; t-blocks; t-output; t-reply]
@@ -257,7 +257,7 @@ module _ (turnOf : TurnOf) (agree : Agree turnOf) (kt kc : Name) {M : Type 1} (�
         assigns ! (addr ! (from ! (fld ! refl (hop ! (look-in ! 24 (sub ! 0 refl (whole !))) (stop !))))) (from ! (stop !)) (init ! 48 refl (tt, tt)) $
         assigns ! (agg ! (and-then ! (load ! (from ! (stop !)) (look ! 48 refl)) (and-then ! (load ! (from ! (fld ! refl (stop !))) (look-in ! 24 (sub ! 1 refl (whole !)))) (no-more !)))) (from ! (stop !)) (init ! 50 refl (tt, (tt, (record { fits = g-reply .0 }, tt)))) $
         move ! (26 ∷ 28 ∷ 30 ∷ []) $ group ! 3 $
-        use1 W (later (some (λ (ls : Loans). Tokens 𝓤 H A W (places l-13 l-14 l-15) ls ⊛ Each 𝓤 H A W (places l-13 l-14 l-15) shared tbl ls ⊛ Each 𝓤 H A W (places l-13 l-14 l-15) keptShared tbl ls))) (lends-shared 𝓤 H A W (places l-13 l-14 l-15) tbl are) $ await ! tt $ pick ! (λ ls′.
+        use1 W (later (some (λ (l : Loans). Tokens 𝓤 H A W (places l-13 l-14 l-15) l ⊛ Each 𝓤 H A W (places l-13 l-14 l-15) shared tbl l ⊛ Each 𝓤 H A W (places l-13 l-14 l-15) keptShared tbl l))) (lends-shared 𝓤 H A W (places l-13 l-14 l-15) tbl are) $ await ! tt $ pick ! (λ ls′.
         split ! $ move ! (1 ∷ []) $ split ! $
         move ! (2 ∷ 0 ∷ 56 ∷ 57 ∷ span 59 10) $ group ! 14 $ use1 W (raw (Work 𝓤 H A turnOf .pre (to-work (places l-13 l-14 l-15) ls′)) ⊛ ‵ O-curves ⊛ ‵ O-functions ⊛ ‵ O-values ⊛ ‵ O-blocks ⊛ ‵ O-output) (goes-work (places l-13 l-14 l-15) ls′ (is .1) was-groups) $ split ! $
         -- [pre; copies; kept; the locals; t-groups; bor-groups; t-variables; O-variables; obs-groups]

@@ -230,7 +230,7 @@ module _ (turnOf : TurnOf) (agree : Agree turnOf) (kt kc : Name) {M : Type 1} (�
         assigns ! (addr ! (from ! (stop !))) (from ! (stop !)) (init ! 30 refl (tt, tt)) $
         assigns ! (addr ! (from ! (stop !))) (from ! (stop !)) (init ! 32 refl (tt, tt)) $
         move ! (18 ∷ 20 ∷ 22 ∷ []) $ group ! 3 $
-        use1 W (later (some (λ (ls : Loans). Tokens 𝓤 H A W (places l-9 l-10 l-11) ls ⊛ Each 𝓤 H A W (places l-9 l-10 l-11) byMut blanks ls ⊛ Each 𝓤 H A W (places l-9 l-10 l-11) keptMut blanks ls))) (lends-mut 𝓤 H A W (places l-9 l-10 l-11) blanks blanks-are) $ await ! tt $ pick ! (λ ls.
+        use1 W (later (some (λ (l : Loans). Tokens 𝓤 H A W (places l-9 l-10 l-11) l ⊛ Each 𝓤 H A W (places l-9 l-10 l-11) byMut blanks l ⊛ Each 𝓤 H A W (places l-9 l-10 l-11) keptMut blanks l))) (lends-mut 𝓤 H A W (places l-9 l-10 l-11) blanks blanks-are) $ await ! tt $ pick ! (λ ls.
         split ! $ move ! (1 ∷ []) $ split ! $
         move ! (44 ∷ 52 ∷ 2 ∷ 0 ∷ []) $ group ! 4 $ use1 W (raw (TableOf 𝓤 H A at-mem run .pre (to-table (places l-9 l-10 l-11) ls)) ⊛ ‵ O-variables) (goes-table (places l-9 l-10 l-11) ls) $ split ! $
         -- [pre; O-variables; kept; the locals; O-curves; O-functions; obs-groups; bor-groups; O-values; O-blocks; O-bytes; t-curves; t-functions; t-groups; t-values; t-blocks; t-bytes]
@@ -250,7 +250,7 @@ module _ (turnOf : TurnOf) (agree : Agree turnOf) (kt kc : Name) {M : Type 1} (�
         assigns ! (addr ! (from ! (fld ! refl (hop ! (look-in ! 10 (sub ! 0 refl (whole !))) (stop !))))) (from ! (stop !)) (init ! 40 refl (tt, tt)) $
         assigns ! (agg ! (and-then ! (load ! (from ! (stop !)) (look ! 40 refl)) (and-then ! (load ! (from ! (fld ! refl (stop !))) (look-in ! 10 (sub ! 1 refl (whole !)))) (no-more !)))) (from ! (stop !)) (init ! 42 refl (tt, (tt, (record { fits = g-values .0 }, tt)))) $
         move ! (18 ∷ 20 ∷ 22 ∷ []) $ group ! 3 $
-        use1 W (later (some (λ (ls : Loans). Tokens 𝓤 H A W (places l-9 l-10 l-11) ls ⊛ Each 𝓤 H A W (places l-9 l-10 l-11) shared tbl ls ⊛ Each 𝓤 H A W (places l-9 l-10 l-11) keptShared tbl ls))) (lends-shared 𝓤 H A W (places l-9 l-10 l-11) tbl are) $ await ! tt $ pick ! (λ ls′.
+        use1 W (later (some (λ (l : Loans). Tokens 𝓤 H A W (places l-9 l-10 l-11) l ⊛ Each 𝓤 H A W (places l-9 l-10 l-11) shared tbl l ⊛ Each 𝓤 H A W (places l-9 l-10 l-11) keptShared tbl l))) (lends-shared 𝓤 H A W (places l-9 l-10 l-11) tbl are) $ await ! tt $ pick ! (λ ls′.
         split ! $ move ! (1 ∷ []) $ split ! $
         move ! (2 ∷ 0 ∷ 48 ∷ 49 ∷ 51 ∷ 52 ∷ 53 ∷ 54 ∷ 55 ∷ 56 ∷ 57 ∷ 58 ∷ []) $ group ! 12 $ use1 W (raw (Work 𝓤 H A turnOf .pre (to-work (places l-9 l-10 l-11) ls′)) ⊛ ‵ O-curves ⊛ ‵ O-functions ⊛ ‵ O-blocks ⊛ ‵ O-bytes) (goes-work (places l-9 l-10 l-11) ls′ (is .1) was-groups) $ split ! $
         -- [pre; copies; kept; the locals; t-groups; bor-groups; t-variables; O-variables; obs-groups]
