@@ -2,7 +2,34 @@
  * file of settled examples. C11 and also C++11. */
 #include "faces/subjects.h"
 
+#if BSMP_VERSION < 100
+#error "a version of the header that there never was"
+#endif
+
 unsigned checks, failed;
+
+static void try_versions(void)
+{
+    static const uint8_t expected[] = {BSMP_PROTOCOL_MAJOR, BSMP_PROTOCOL_MINOR, BSMP_PROTOCOL_REVISION};
+    static const uint8_t packet[] = {0x05, 0x00, 0x00, 0x00, 0xFB};
+    struct bench bench;
+    start(&bench);
+    struct bsmp_outcome outcome = packet_by(INLINE, &bench, packet, sizeof packet);
+    check_number("the version's reply", outcome.length, 5 + sizeof expected);
+    check(memcmp(bench.reply + 4, expected, sizeof expected) == 0, "the version's reply", "another version than the header's");
+    end(&bench);
+}
+
+static void try_checksum(void)
+{
+    static const uint8_t packet[] = {0x05, 0x10, 0x00, 0x01, 0x00, 0xEA};
+    static uint8_t longest[BSMP_MOST_PACKET];
+    memset(longest, 0xFF, sizeof longest);
+    check_number("the checksum of nothing", bsmp_checksum(NULL, 0), 0);
+    check_number("a checksum", bsmp_checksum(packet, 5), 0xEA);
+    check_number("the checksum of a closed packet", bsmp_checksum(packet, 6), 0);
+    check_number("the checksum of the longest packet", bsmp_checksum(longest, BSMP_MOST_PACKET - 1), (BSMP_MOST_PACKET - 1) % 256);
+}
 
 static void try_words(void)
 {
@@ -29,6 +56,9 @@ int main(int count, char **arguments)
     }
     try_null();
     try_readings();
+    try_places_and_values();
+    try_versions();
+    try_checksum();
     try_words();
     printf("%u checks, %u failed\n", checks, failed);
     return failed != 0;

@@ -105,7 +105,7 @@ static const struct call *current;
 
 #define ENTRY(function) ((__typeof__(&function))entry)
 #define RECORDS \
-    variables, board.variable_count, bsmp_curve_numbers(&board), 3 * board.curve_count, bsmp_function_numbers(&board), \
+    variables, board.variable_count, bsmp_node_curve_numbers(&board), 3 * board.curve_count, bsmp_node_function_numbers(&board), \
         2 * board.function_count
 #define STORES values, sizeof values, blocks, sizeof blocks
 
@@ -257,7 +257,6 @@ static void prepare(const struct call *call)
     room = sizeof reply;
 
     size_t size = call->front_length + call->rest;
-    uint8_t sum = 0;
     packet_length = size + 5;
     packet[0] = board.own;
     packet[1] = call->command;
@@ -265,8 +264,7 @@ static void prepare(const struct call *call)
     packet[3] = (uint8_t)size;
     memcpy(packet + 4, call->front, call->front_length);
     for (size_t i = 0; i < call->rest; i++) packet[4 + call->front_length + i] = (uint8_t)i;
-    for (size_t i = 0; i + 1 < packet_length; i++) sum = (uint8_t)(sum + packet[i]);
-    packet[packet_length - 1] = (uint8_t)(0 - sum);
+    packet[packet_length - 1] = bsmp_checksum(packet, packet_length - 1);
     if (call->change) call->change();
 }
 

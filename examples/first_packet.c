@@ -12,14 +12,14 @@ int main(void)
     static uint8_t reply[BSMP_REPLY_ROOM];
     struct bsmp_state state = {values, sizeof values, NULL, 0, {0, {0}}};
 
-    struct bsmp_outcome outcome = bsmp_board_packet(&board, &state, 0, packet, sizeof packet, reply, sizeof reply);
+    struct bsmp_outcome outcome = bsmp_node_packet(&board, &state, 0, packet, sizeof packet, reply, sizeof reply);
     if (outcome.kind != BSMP_REPLY) {
         fprintf(stderr, "no reply: %s\n", bsmp_refusal_words(outcome.refusal));
         return 1;
     }
     for (size_t i = 0; i < outcome.length; i++) printf("%02X%s", reply[i], i + 1 < outcome.length ? " " : "\n");
 
-    struct bsmp_signed_reading reading = bsmp_board_read_signed(&board, 0, reply + 4, 4);
+    struct bsmp_signed_reading reading = bsmp_node_read_signed(&board, 0, reply + 4, 4);
     if (reading.refusal != BSMP_NOT_REFUSED) {
         fprintf(stderr, "no number: %s\n", bsmp_refusal_words(reading.refusal));
         return 1;

@@ -204,16 +204,16 @@ static uint8_t reply[BSMP_REPLY_ROOM];
 /* Function 0 stands for a real board's work: 1000 divided by its input, most significant byte first, or error 1 if that is 0. */
 static struct bsmp_outcome run_function(const struct bsmp_state *state, const struct bsmp_outcome *run, const uint8_t *input)
 {
-    if (input[0] == 0) return bsmp_board_function_failed(&board_a, state, run->function, run->due, 1, reply, sizeof reply);
+    if (input[0] == 0) return bsmp_node_function_failed(&board_a, state, run->function, run->due, 1, reply, sizeof reply);
     unsigned quotient = 1000u / input[0];
     uint8_t output[2] = {(uint8_t)(quotient >> 8), (uint8_t)quotient};
-    return bsmp_board_function_gave(&board_a, state, run->function, run->due, output, sizeof output, reply, sizeof reply);
+    return bsmp_node_function_gave(&board_a, state, run->function, run->due, output, sizeof output, reply, sizeof reply);
 }
 
 static enum waited answer(const struct line *line, struct bsmp_state *state, const struct packet *packet)
 {
     struct bsmp_outcome outcome =
-        bsmp_board_packet(&board_a, state, 0, packet->bytes, packet->length, reply, sizeof reply);
+        bsmp_node_packet(&board_a, state, 0, packet->bytes, packet->length, reply, sizeof reply);
     if (outcome.kind == BSMP_RUN) {
         log_bytes("runs a function with", packet->bytes + outcome.input, outcome.length);
         outcome = run_function(state, &outcome, packet->bytes + outcome.input);
@@ -227,7 +227,7 @@ static enum waited answer(const struct line *line, struct bsmp_state *state, con
     return READY;
 }
 
-/* Between two packets a real board would store what it measured, by bsmp_board_store_value. */
+/* Between two packets a real board would store what it measured, by bsmp_node_store. */
 static int serve(const struct line *line)
 {
     static struct packet packet;

@@ -4,10 +4,17 @@
  * The board keeps all memory and lends it to each call. The library allocates nothing and remembers nothing.
  * Line silence, baud rate and what a function does inside are the board's own affair.
  *
- * Link with libbsmp_c.a. It calls memcpy, memmove and memset, which the C library or the firmware supplies. There are two:
- *   - The proved archive is x86-64 code with the System V calling convention, and uses the SSE registers.
+ * There are two layers, and a function's name tells its layer:
+ *   - bsmp_node_.. takes a board and its state as two structs. It is what a board needs and comes first. These functions are
+ *     inline; every judgement in them is the library's.
+ *   - The seven functions of the library itself have no such prefix and take bare slices. They come after, with who needs them.
+ * Two helpers belong to both: bsmp_checksum and bsmp_refusal_words. examples/first_packet.c is the shortest program.
+ *
+ * Link with libbsmp_c.a. There are two:
+ *   - The proved archive is x86-64 code with the System V calling convention, and uses the SSE registers. It calls memcpy,
+ *     memmove and memset at most.
  *   - The portable edition is the proved source, compiled elsewhere and tested, for any target whose size_t has 32 or 64 bits;
- *     docs/BOARDS.md says what one trusts besides the proofs.
+ *     docs/BOARDS.md says what it calls, and what one trusts besides the proofs.
  *
  * Duties of the caller. Nothing can check them, and a call that breaks one may do anything:
  *   - Every pointer is valid for its length, which counts elements, and is aligned as its type asks.
@@ -18,16 +25,23 @@
  * NULL is fine for every slice (a pointer with its length) of length 0. A group table, a board and a state are never NULL.
  *
  * Nothing else is asked. Wrong records, lengths, numbers and packets get a refusal by number, and a refused call changes no
- * byte of any store, group table or buffer.
- *
- * Below stand the limits and codes, the structs, the seven functions of the library, and a layer of inline functions that take
- * a board and its state as two structs. Most boards need only that layer; examples/first_packet.c is the shortest program. */
+ * byte of any store, group table or buffer. */
 #ifndef BSMP_H
 #define BSMP_H
 
 #include <stdbool.h>
 #include <stddef.h>
 #include <stdint.h>
+
+/* The version of this header with its library; .ci/checks/version holds the Rust face's and the suite's to it. And the version of
+ * the protocol, as the node answers it to command 00. */
+#define BSMP_VERSION_MAJOR 0
+#define BSMP_VERSION_MINOR 1
+#define BSMP_VERSION_PATCH 0
+#define BSMP_VERSION (10000 * BSMP_VERSION_MAJOR + 100 * BSMP_VERSION_MINOR + BSMP_VERSION_PATCH) /* for #if */
+#define BSMP_PROTOCOL_MAJOR 2
+#define BSMP_PROTOCOL_MINOR 20
+#define BSMP_PROTOCOL_REVISION 0
 
 #if defined(_WIN32) && !defined(BSMP_PORTABLE)
 #error "the proved libbsmp_c.a has the System V calling convention; for the portable edition, define BSMP_PORTABLE"
@@ -117,14 +131,12 @@ struct bsmp_variable {
     uint8_t kind;     /* enum bsmp_kind */
 };
 
-/* An array of these is the flat list of numbers that the library takes, three to a record. */
 struct bsmp_curve {
-    uint32_t writable;
+    uint32_t writable; /* BSMP_READ_ONLY or BSMP_WRITABLE */
     uint32_t block_size;
     uint32_t blocks;
 };
 
-/* Likewise, two to a record. */
 struct bsmp_function {
     uint8_t input;  /* 0 to 15 bytes */
     uint8_t output; /* 0 to 15 bytes */
@@ -136,6 +148,27 @@ struct bsmp_function {
 struct bsmp_groups {
     uint64_t count;
     uint64_t sets[BSMP_MOST_MADE_GROUPS];
+};
+
+/* What stays as it is while the board runs; it can be const, in ROM. Records are numbered from 0, in their order. */
+struct bsmp_board {
+    const struct bsmp_variable *variables;
+    size_t variable_count; /* 1 to 64 */
+    const struct bsmp_curve *curves;
+    size_t curve_count; /* 0 to 8 */
+    const struct bsmp_function *functions;
+    size_t function_count; /* 0 to 16 */
+    uint8_t own;           /* address 1 to 31 */
+    uint8_t multicast;     /* most significant bit is address 248, least is 255; the least is always set */
+};
+
+/* What changes. Each store has exactly the length that the records add up to. */
+struct bsmp_state {
+    uint8_t *values; /* in order of number, each variable's value starts where the one before it ends */
+    size_t values_length;
+    uint8_t *blocks; /* the curves likewise, block after block */
+    size_t blocks_length;
+    struct bsmp_groups groups;
 };
 
 /* ---- What comes back ---- */
@@ -161,6 +194,135 @@ struct bsmp_unsigned_reading {
     uint64_t number;
 };
 
+/* Refusal BSMP_NOT_REFUSED and where a variable's bytes stand in the store of values, or a refusal and 0. */
+struct bsmp_place {
+    uint8_t refusal;
+    size_t offset;
+    size_t size;
+};
+
+/* ---- A board and its state: what a board calls ----
+ *
+ * Refusal 1 looks at all that both structs hold; in the last four, which take no state, at the variable records only. */
+
+/* One packet, all its bytes from the destination to the checksum.
+ *   busy  bit n is set while variable n may not be written; higher bits count for nothing.
+ * Refusals, in this order: 1 to 6. They change nothing.
+ * Outcomes:
+ *   BSMP_REPLY    to be sent. Of the reply buffer, only the reply's own bytes were written. If it is a wire error, no value,
+ *                 block or group changed.
+ *   BSMP_SILENCE  a multicast packet was carried out, or was in error; nothing is to be sent.
+ *   BSMP_RUN      the board is to run a function and say what came of it by one of the next three. Nothing was written, and
+ *                 the library doesn't wait for it: other packets may come first. */
+static inline struct bsmp_outcome bsmp_node_packet(const struct bsmp_board *board, struct bsmp_state *state, uint64_t busy,
+                                                   const uint8_t *packet, size_t length, uint8_t *reply, size_t room);
+
+/* A function that a packet asked for succeeded and gave its output, or failed with an error byte.
+ *   due  as the outcome BSMP_RUN had it.
+ * Refusals, in this order: 1, 3, 7, 8 (8 only if it succeeded); also if no answer is due. They change nothing.
+ * Outcomes: BSMP_REPLY if an answer is due, else BSMP_SILENCE. Nothing but the reply's own bytes is written. */
+static inline struct bsmp_outcome bsmp_node_function_gave(const struct bsmp_board *board, const struct bsmp_state *state,
+                                                          size_t function, bool due, const uint8_t *output, size_t length,
+                                                          uint8_t *reply, size_t room);
+static inline struct bsmp_outcome bsmp_node_function_failed(const struct bsmp_board *board, const struct bsmp_state *state,
+                                                            size_t function, bool due, uint8_t error, uint8_t *reply,
+                                                            size_t room);
+
+/* Both in one: if it failed, output counts for nothing, and if it succeeded, error. */
+static inline struct bsmp_outcome bsmp_node_function_result(const struct bsmp_board *board, const struct bsmp_state *state,
+                                                            size_t function, bool due, bool failed, uint8_t error,
+                                                            const uint8_t *output, size_t length, uint8_t *reply, size_t room);
+
+/* The board stores a new value into any variable, read-only or busy too. Only those bytes change.
+ * Gives 0 or a refusal, in this order: 1, 9, 10. They change nothing. */
+static inline uint8_t bsmp_node_store(const struct bsmp_board *board, struct bsmp_state *state, size_t variable,
+                                      const uint8_t *bytes, size_t count);
+
+/* The same of a number, as the only bytes that read as it by the variable's kind.
+ * Gives 0 or a refusal, in this order: 1, 9, 11, 12. They change nothing. */
+static inline uint8_t bsmp_node_store_signed(const struct bsmp_board *board, struct bsmp_state *state, size_t variable,
+                                             int64_t number);
+static inline uint8_t bsmp_node_store_unsigned(const struct bsmp_board *board, struct bsmp_state *state, size_t variable,
+                                               uint64_t number);
+
+/* The current value of a variable as a number. Refusals, in this order: 1, 9, 11. */
+static inline struct bsmp_signed_reading bsmp_node_value_signed(const struct bsmp_board *board, const struct bsmp_state *state,
+                                                                size_t variable);
+static inline struct bsmp_unsigned_reading bsmp_node_value_unsigned(const struct bsmp_board *board,
+                                                                    const struct bsmp_state *state, size_t variable);
+
+/* A variable's place: its current value is the place.size bytes from state->values + place.offset on, whatever its kind.
+ * Refusals, in this order: 1, 9. */
+static inline struct bsmp_place bsmp_node_place(const struct bsmp_board *board, const struct bsmp_state *state, size_t variable);
+
+/* Bytes to number, by the variable's kind: of bytes that stand elsewhere, as in a reply.
+ * Refusals, in this order: 1, 9, 11, 10. */
+static inline struct bsmp_signed_reading bsmp_node_read_signed(const struct bsmp_board *board, size_t variable,
+                                                               const uint8_t *bytes, size_t count);
+static inline struct bsmp_unsigned_reading bsmp_node_read_unsigned(const struct bsmp_board *board, size_t variable,
+                                                                   const uint8_t *bytes, size_t count);
+
+/* Number to bytes: the only bytes that read as it. Gives 0 or a refusal, in this order: 1, 9, 11, 10, 12. They leave the buffer
+ * as it was. */
+static inline uint8_t bsmp_node_write_signed(const struct bsmp_board *board, size_t variable, int64_t number, uint8_t *buffer,
+                                             size_t length);
+static inline uint8_t bsmp_node_write_unsigned(const struct bsmp_board *board, size_t variable, uint64_t number,
+                                               uint8_t *buffer, size_t length);
+
+/* ---- Helpers of both layers ---- */
+
+/* The byte that closes a packet: behind these bytes, it makes the sum of all 0 modulo 256. Of a packet that is closed, it is 0.
+ * Replies are closed already; who sends requests, a master or a test, does packet[length] = bsmp_checksum(packet, length). */
+static inline uint8_t bsmp_checksum(const uint8_t *bytes, size_t length);
+
+/* A refusal in words, for a log. */
+static inline const char *bsmp_refusal_words(uint64_t refusal);
+
+/* ---- The library: the same over bare slices ----
+ *
+ * For who has no such structs: the face of another language, as rust/ is, or a program that keeps its records otherwise.
+ * Each does what the function of its name above does, and bsmp_board_store what bsmp_node_store does; duties, outcomes and
+ * refusals are the same. In place of the structs are lent:
+ *   variables  records, as above.
+ *   curves     three numbers to a record, so curve_numbers is 3 times the curves; a record that is cut off breaks the limits.
+ *   functions  two numbers to a record, likewise.
+ *   values, blocks, groups, own, multicast   as above. */
+
+struct bsmp_outcome bsmp_packet(const struct bsmp_variable *variables, size_t variable_count,
+                                const uint32_t *curves, size_t curve_numbers,
+                                const uint8_t *functions, size_t function_numbers,
+                                struct bsmp_groups *groups, uint8_t own, uint8_t multicast, uint64_t busy,
+                                uint8_t *values, size_t values_length, uint8_t *blocks, size_t blocks_length,
+                                const uint8_t *packet, size_t packet_length, uint8_t *reply, size_t reply_room);
+
+struct bsmp_outcome bsmp_function_result(const struct bsmp_variable *variables, size_t variable_count,
+                                         const uint32_t *curves, size_t curve_numbers,
+                                         const uint8_t *functions, size_t function_numbers,
+                                         const struct bsmp_groups *groups, const uint8_t *values, size_t values_length,
+                                         const uint8_t *blocks, size_t blocks_length, size_t function, bool due,
+                                         bool failed, uint8_t error, const uint8_t *output, size_t output_length,
+                                         uint8_t *reply, size_t reply_room);
+
+uint8_t bsmp_board_store(const struct bsmp_variable *variables, size_t variable_count,
+                         const uint32_t *curves, size_t curve_numbers,
+                         const uint8_t *functions, size_t function_numbers,
+                         const struct bsmp_groups *groups, uint8_t *values, size_t values_length,
+                         const uint8_t *blocks, size_t blocks_length, size_t variable,
+                         const uint8_t *bytes, size_t byte_count);
+
+struct bsmp_signed_reading bsmp_read_signed(const struct bsmp_variable *variables, size_t variable_count, size_t variable,
+                                            const uint8_t *bytes, size_t byte_count);
+
+struct bsmp_unsigned_reading bsmp_read_unsigned(const struct bsmp_variable *variables, size_t variable_count, size_t variable,
+                                                const uint8_t *bytes, size_t byte_count);
+
+uint8_t bsmp_write_signed(const struct bsmp_variable *variables, size_t variable_count, size_t variable, int64_t number,
+                          uint8_t *buffer, size_t buffer_length);
+
+uint8_t bsmp_write_unsigned(const struct bsmp_variable *variables, size_t variable_count, size_t variable, uint64_t number,
+                            uint8_t *buffer, size_t buffer_length);
+
+/* The layouts that the library takes. */
 BSMP_ASSERT(sizeof(size_t) == 4 || sizeof(size_t) == 8);
 BSMP_ASSERT(sizeof(bool) == 1);
 BSMP_ASSERT(sizeof(struct bsmp_variable) == 3);
@@ -177,180 +339,140 @@ BSMP_ASSERT(offsetof(struct bsmp_outcome, length) == 3 * sizeof(size_t));
 BSMP_ASSERT(sizeof(struct bsmp_signed_reading) == 16 && offsetof(struct bsmp_signed_reading, number) == 8);
 BSMP_ASSERT(sizeof(struct bsmp_unsigned_reading) == 16 && offsetof(struct bsmp_unsigned_reading, number) == 8);
 
-/* ---- The library ----
- *
- * Common to the first three, which look at the whole board for refusal 1:
- *   variables  1 to 64 records.
- *   curves     three numbers to a record, so curve_numbers is 3 times the curves; a record that is cut off breaks the limits.
- *   functions  two numbers to a record, likewise.
- *   values     the variables' store: in order of number, each value starts where the one before it ends. Exactly that length.
- *   blocks     the curves' store, likewise, block after block. */
+/* ---- How the inline functions do it ---- */
 
-/* One packet, all its bytes from the destination to the checksum.
- *   multicast  most significant bit is address 248, least is 255; the least is always set.
- *   busy       bit n is set while variable n may not be written; higher bits count for nothing.
- * Refusals, in this order: 1 to 6. They change nothing.
- * Outcomes:
- *   BSMP_REPLY    to be sent. Of the reply buffer, only the reply's own bytes were written. If it is a wire error, no value,
- *                 block or group changed.
- *   BSMP_SILENCE  a multicast packet was carried out, or was in error; nothing is to be sent.
- *   BSMP_RUN      the board is to run a function and hand what came of it to bsmp_function_result. Nothing was written, and the
- *                 library doesn't wait for it: other packets may come first. */
-struct bsmp_outcome bsmp_packet(const struct bsmp_variable *variables, size_t variable_count,
-                                const uint32_t *curves, size_t curve_numbers,
-                                const uint8_t *functions, size_t function_numbers,
-                                struct bsmp_groups *groups, uint8_t own, uint8_t multicast, uint64_t busy,
-                                uint8_t *values, size_t values_length, uint8_t *blocks, size_t blocks_length,
-                                const uint8_t *packet, size_t packet_length, uint8_t *reply, size_t reply_room);
-
-/* What became of a function that a packet asked for.
- *   due     as the outcome BSMP_RUN had it.
- *   failed  true: error is its error byte, and output counts for nothing. false: output is what it gave, and error counts
- *           for nothing.
- * Refusals, in this order: 1, 3, 7, 8 (8 only if it didn't fail); also if no answer is due. They change nothing.
- * Outcomes: BSMP_REPLY if an answer is due, else BSMP_SILENCE. Nothing but the reply's own bytes is written. */
-struct bsmp_outcome bsmp_function_result(const struct bsmp_variable *variables, size_t variable_count,
-                                         const uint32_t *curves, size_t curve_numbers,
-                                         const uint8_t *functions, size_t function_numbers,
-                                         const struct bsmp_groups *groups, const uint8_t *values, size_t values_length,
-                                         const uint8_t *blocks, size_t blocks_length, size_t function, bool due,
-                                         bool failed, uint8_t error, const uint8_t *output, size_t output_length,
-                                         uint8_t *reply, size_t reply_room);
-
-/* The board stores a new value into any variable, read-only or busy too. Only those bytes change.
- * Gives 0 or a refusal, in this order: 1, 9, 10. They change nothing. */
-uint8_t bsmp_board_store(const struct bsmp_variable *variables, size_t variable_count,
-                         const uint32_t *curves, size_t curve_numbers,
-                         const uint8_t *functions, size_t function_numbers,
-                         const struct bsmp_groups *groups, uint8_t *values, size_t values_length,
-                         const uint8_t *blocks, size_t blocks_length, size_t variable,
-                         const uint8_t *bytes, size_t byte_count);
-
-/* Bytes to number, by the variable's kind. Refusals, in this order: 1 (of the variable records only), 9, 11, 10. */
-struct bsmp_signed_reading bsmp_read_signed(const struct bsmp_variable *variables, size_t variable_count, size_t variable,
-                                            const uint8_t *bytes, size_t byte_count);
-
-struct bsmp_unsigned_reading bsmp_read_unsigned(const struct bsmp_variable *variables, size_t variable_count, size_t variable,
-                                                const uint8_t *bytes, size_t byte_count);
-
-/* Number to bytes: the only bytes that read as it. Gives 0 or a refusal, in this order: 1 (of the variable records only), 9, 11,
- * 10, 12. They leave the buffer as it was. */
-uint8_t bsmp_write_signed(const struct bsmp_variable *variables, size_t variable_count, size_t variable, int64_t number,
-                          uint8_t *buffer, size_t buffer_length);
-
-uint8_t bsmp_write_unsigned(const struct bsmp_variable *variables, size_t variable_count, size_t variable, uint64_t number,
-                            uint8_t *buffer, size_t buffer_length);
-
-/* ---- The same by board and state ----
- *
- * Each function hands its structs' members to the function of the library that it names, and does nothing else. */
-
-/* What stays as it is while the board runs; it can be const, in ROM. */
-struct bsmp_board {
-    const struct bsmp_variable *variables;
-    size_t variable_count;
-    const struct bsmp_curve *curves;
-    size_t curve_count;
-    const struct bsmp_function *functions;
-    size_t function_count;
-    uint8_t own;
-    uint8_t multicast;
-};
-
-/* What changes. */
-struct bsmp_state {
-    uint8_t *values;
-    size_t values_length;
-    uint8_t *blocks;
-    size_t blocks_length;
-    struct bsmp_groups groups;
-};
-
-static inline const uint32_t *bsmp_curve_numbers(const struct bsmp_board *board)
+/* An array of records is the flat list of numbers that the library takes; the layouts above are asserted for this. */
+static inline const uint32_t *bsmp_node_curve_numbers(const struct bsmp_board *board)
 {
     return (const uint32_t *)(const void *)board->curves;
 }
 
-static inline const uint8_t *bsmp_function_numbers(const struct bsmp_board *board)
+static inline const uint8_t *bsmp_node_function_numbers(const struct bsmp_board *board)
 {
     return (const uint8_t *)(const void *)board->functions;
 }
 
-/* bsmp_packet */
-static inline struct bsmp_outcome bsmp_board_packet(const struct bsmp_board *board, struct bsmp_state *state, uint64_t busy,
-                                                    const uint8_t *packet, size_t length, uint8_t *reply, size_t room)
+#define BSMP_RECORDS                                                                                                        \
+    board->variables, board->variable_count, bsmp_node_curve_numbers(board), 3 * board->curve_count,                        \
+        bsmp_node_function_numbers(board), 2 * board->function_count
+#define BSMP_STORES state->values, state->values_length, state->blocks, state->blocks_length
+
+static inline struct bsmp_outcome bsmp_node_packet(const struct bsmp_board *board, struct bsmp_state *state, uint64_t busy,
+                                                   const uint8_t *packet, size_t length, uint8_t *reply, size_t room)
 {
-    return bsmp_packet(board->variables, board->variable_count, bsmp_curve_numbers(board), 3 * board->curve_count,
-                       bsmp_function_numbers(board), 2 * board->function_count, &state->groups, board->own,
-                       board->multicast, busy, state->values, state->values_length, state->blocks, state->blocks_length,
-                       packet, length, reply, room);
+    return bsmp_packet(BSMP_RECORDS, &state->groups, board->own, board->multicast, busy, BSMP_STORES, packet, length, reply,
+                       room);
 }
 
-/* bsmp_function_result */
-static inline struct bsmp_outcome bsmp_board_function_ended(const struct bsmp_board *board, const struct bsmp_state *state,
+static inline struct bsmp_outcome bsmp_node_function_result(const struct bsmp_board *board, const struct bsmp_state *state,
                                                             size_t function, bool due, bool failed, uint8_t error,
                                                             const uint8_t *output, size_t length, uint8_t *reply, size_t room)
 {
-    return bsmp_function_result(board->variables, board->variable_count, bsmp_curve_numbers(board), 3 * board->curve_count,
-                                bsmp_function_numbers(board), 2 * board->function_count, &state->groups, state->values,
-                                state->values_length, state->blocks, state->blocks_length, function, due, failed, error,
-                                output, length, reply, room);
+    return bsmp_function_result(BSMP_RECORDS, &state->groups, BSMP_STORES, function, due, failed, error, output, length, reply,
+                                room);
 }
 
-/* bsmp_function_result of a function that succeeded */
-static inline struct bsmp_outcome bsmp_board_function_gave(const struct bsmp_board *board, const struct bsmp_state *state,
-                                                           size_t function, bool due, const uint8_t *output, size_t length,
-                                                           uint8_t *reply, size_t room)
+static inline struct bsmp_outcome bsmp_node_function_gave(const struct bsmp_board *board, const struct bsmp_state *state,
+                                                          size_t function, bool due, const uint8_t *output, size_t length,
+                                                          uint8_t *reply, size_t room)
 {
-    return bsmp_board_function_ended(board, state, function, due, false, 0, output, length, reply, room);
+    return bsmp_node_function_result(board, state, function, due, false, 0, output, length, reply, room);
 }
 
-/* bsmp_function_result of a function that failed */
-static inline struct bsmp_outcome bsmp_board_function_failed(const struct bsmp_board *board, const struct bsmp_state *state,
-                                                             size_t function, bool due, uint8_t error, uint8_t *reply,
-                                                             size_t room)
+static inline struct bsmp_outcome bsmp_node_function_failed(const struct bsmp_board *board, const struct bsmp_state *state,
+                                                            size_t function, bool due, uint8_t error, uint8_t *reply,
+                                                            size_t room)
 {
-    return bsmp_board_function_ended(board, state, function, due, true, error, NULL, 0, reply, room);
+    return bsmp_node_function_result(board, state, function, due, true, error, NULL, 0, reply, room);
 }
 
-/* bsmp_board_store */
-static inline uint8_t bsmp_board_store_value(const struct bsmp_board *board, struct bsmp_state *state, size_t variable,
-                                             const uint8_t *bytes, size_t count)
+static inline uint8_t bsmp_node_store(const struct bsmp_board *board, struct bsmp_state *state, size_t variable,
+                                      const uint8_t *bytes, size_t count)
 {
-    return bsmp_board_store(board->variables, board->variable_count, bsmp_curve_numbers(board), 3 * board->curve_count,
-                            bsmp_function_numbers(board), 2 * board->function_count, &state->groups, state->values,
-                            state->values_length, state->blocks, state->blocks_length, variable, bytes, count);
+    return bsmp_board_store(BSMP_RECORDS, &state->groups, BSMP_STORES, variable, bytes, count);
 }
 
-/* bsmp_read_signed */
-static inline struct bsmp_signed_reading bsmp_board_read_signed(const struct bsmp_board *board, size_t variable,
-                                                                const uint8_t *bytes, size_t count)
+/* A store of no bytes is always refused, as no variable has size 0, and so changes nothing. If 10 is all that is wrong with it,
+ * the board is usable and has the variable. */
+static inline struct bsmp_place bsmp_node_place(const struct bsmp_board *board, const struct bsmp_state *state, size_t variable)
+{
+    struct bsmp_place place = {BSMP_NOT_REFUSED, 0, 0};
+    uint8_t refusal = bsmp_board_store(BSMP_RECORDS, &state->groups, BSMP_STORES, variable, NULL, 0);
+    if (refusal != BSMP_WRONG_BYTE_COUNT) {
+        place.refusal = refusal;
+        return place;
+    }
+    for (size_t i = 0; i < variable; i++) place.offset += board->variables[i].size;
+    place.size = board->variables[variable].size;
+    return place;
+}
+
+/* The number is written where it is to stand; that is a store, as a refused writing leaves its buffer as it was. */
+static inline uint8_t bsmp_node_store_signed(const struct bsmp_board *board, struct bsmp_state *state, size_t variable,
+                                             int64_t number)
+{
+    struct bsmp_place place = bsmp_node_place(board, state, variable);
+    if (place.refusal != BSMP_NOT_REFUSED) return place.refusal;
+    return bsmp_node_write_signed(board, variable, number, state->values + place.offset, place.size);
+}
+
+static inline uint8_t bsmp_node_store_unsigned(const struct bsmp_board *board, struct bsmp_state *state, size_t variable,
+                                               uint64_t number)
+{
+    struct bsmp_place place = bsmp_node_place(board, state, variable);
+    if (place.refusal != BSMP_NOT_REFUSED) return place.refusal;
+    return bsmp_node_write_unsigned(board, variable, number, state->values + place.offset, place.size);
+}
+
+static inline struct bsmp_signed_reading bsmp_node_value_signed(const struct bsmp_board *board, const struct bsmp_state *state,
+                                                                size_t variable)
+{
+    struct bsmp_place place = bsmp_node_place(board, state, variable);
+    struct bsmp_signed_reading refused = {place.refusal, 0};
+    if (place.refusal != BSMP_NOT_REFUSED) return refused;
+    return bsmp_node_read_signed(board, variable, state->values + place.offset, place.size);
+}
+
+static inline struct bsmp_unsigned_reading bsmp_node_value_unsigned(const struct bsmp_board *board,
+                                                                    const struct bsmp_state *state, size_t variable)
+{
+    struct bsmp_place place = bsmp_node_place(board, state, variable);
+    struct bsmp_unsigned_reading refused = {place.refusal, 0};
+    if (place.refusal != BSMP_NOT_REFUSED) return refused;
+    return bsmp_node_read_unsigned(board, variable, state->values + place.offset, place.size);
+}
+
+static inline struct bsmp_signed_reading bsmp_node_read_signed(const struct bsmp_board *board, size_t variable,
+                                                               const uint8_t *bytes, size_t count)
 {
     return bsmp_read_signed(board->variables, board->variable_count, variable, bytes, count);
 }
 
-/* bsmp_read_unsigned */
-static inline struct bsmp_unsigned_reading bsmp_board_read_unsigned(const struct bsmp_board *board, size_t variable,
-                                                                    const uint8_t *bytes, size_t count)
+static inline struct bsmp_unsigned_reading bsmp_node_read_unsigned(const struct bsmp_board *board, size_t variable,
+                                                                   const uint8_t *bytes, size_t count)
 {
     return bsmp_read_unsigned(board->variables, board->variable_count, variable, bytes, count);
 }
 
-/* bsmp_write_signed */
-static inline uint8_t bsmp_board_write_signed(const struct bsmp_board *board, size_t variable, int64_t number, uint8_t *buffer,
-                                              size_t length)
+static inline uint8_t bsmp_node_write_signed(const struct bsmp_board *board, size_t variable, int64_t number, uint8_t *buffer,
+                                             size_t length)
 {
     return bsmp_write_signed(board->variables, board->variable_count, variable, number, buffer, length);
 }
 
-/* bsmp_write_unsigned */
-static inline uint8_t bsmp_board_write_unsigned(const struct bsmp_board *board, size_t variable, uint64_t number,
-                                                uint8_t *buffer, size_t length)
+static inline uint8_t bsmp_node_write_unsigned(const struct bsmp_board *board, size_t variable, uint64_t number,
+                                               uint8_t *buffer, size_t length)
 {
     return bsmp_write_unsigned(board->variables, board->variable_count, variable, number, buffer, length);
 }
 
-/* A refusal in words, for a log. */
+static inline uint8_t bsmp_checksum(const uint8_t *bytes, size_t length)
+{
+    uint8_t rest = 0;
+    for (size_t i = 0; i < length; i++) rest = (uint8_t)(rest - bytes[i]);
+    return rest;
+}
+
 static inline const char *bsmp_refusal_words(uint64_t refusal)
 {
     switch (refusal) {
@@ -374,6 +496,8 @@ static inline const char *bsmp_refusal_words(uint64_t refusal)
 #ifdef __cplusplus
 }
 #endif
+#undef BSMP_RECORDS
+#undef BSMP_STORES
 #undef BSMP_ASSERT
 
 #endif

@@ -40,15 +40,13 @@ static const struct asked all[] = {
 static size_t make_packet(const struct asked *asked)
 {
     size_t size = asked->front_length + asked->rest, length = size + 5;
-    uint8_t sum = 0;
     memset(packet, 0, sizeof packet);
     packet[0] = 5;
     packet[1] = asked->command;
     packet[2] = (uint8_t)(size >> 8);
     packet[3] = (uint8_t)size;
     memcpy(packet + 4, asked->front, asked->front_length);
-    for (size_t i = 0; i + 1 < length; i++) sum = (uint8_t)(sum + packet[i]);
-    packet[length - 1] = (uint8_t)(0 - sum);
+    packet[length - 1] = bsmp_checksum(packet, length - 1);
     return length;
 }
 
@@ -68,7 +66,7 @@ static bool measure(const struct asked *asked)
     TICKS->control = 5;
     uint32_t before = TICKS->current;
     for (int i = 0; i < TIMES; i++) {
-        struct bsmp_outcome outcome = bsmp_board_packet(asked->board, &state, 0, packet, length, reply, sizeof reply);
+        struct bsmp_outcome outcome = bsmp_node_packet(asked->board, &state, 0, packet, length, reply, sizeof reply);
         good = good && outcome.kind == BSMP_REPLY && reply[1] == asked->answered;
     }
     uint32_t spent = (before - TICKS->current) & 0xFFFFFF;

@@ -174,7 +174,7 @@ static inline struct bsmp_outcome packet_by(int way, struct bench *bench, const 
 {
     const struct bsmp_board *board = &bench->board;
     struct bsmp_state *state = &bench->state;
-    if (way == INLINE) return bsmp_board_packet(board, state, bench->busy, packet, length, bench->reply, bench->room);
+    if (way == INLINE) return bsmp_node_packet(board, state, bench->busy, packet, length, bench->reply, bench->room);
     return bsmp_packet(bench->variables, board->variable_count, &bench->curves[0].writable, 3 * board->curve_count,
                        &bench->functions[0].input, 2 * board->function_count, &state->groups, board->own,
                        board->multicast, bench->busy, state->values, state->values_length, state->blocks,
@@ -196,9 +196,9 @@ static inline struct bsmp_outcome result_by(int way, struct bench *bench, const 
     uint8_t output[32];
     size_t length = bytes_of(result->output, output);
     if (way == INLINE && result->failed)
-        return bsmp_board_function_failed(board, state, result->function, result->due, result->error, bench->reply, bench->room);
+        return bsmp_node_function_failed(board, state, result->function, result->due, result->error, bench->reply, bench->room);
     if (way == INLINE)
-        return bsmp_board_function_gave(board, state, result->function, result->due, output, length, bench->reply, bench->room);
+        return bsmp_node_function_gave(board, state, result->function, result->due, output, length, bench->reply, bench->room);
     return bsmp_function_result(bench->variables, board->variable_count, &bench->curves[0].writable,
                                 3 * board->curve_count, &bench->functions[0].input, 2 * board->function_count,
                                 &state->groups, state->values, state->values_length, state->blocks,
@@ -210,7 +210,7 @@ static inline uint8_t store_by(int way, struct bench *bench, size_t variable, co
 {
     const struct bsmp_board *board = &bench->board;
     struct bsmp_state *state = &bench->state;
-    if (way == INLINE) return bsmp_board_store_value(board, state, variable, bytes, count);
+    if (way == INLINE) return bsmp_node_store(board, state, variable, bytes, count);
     return bsmp_board_store(bench->variables, board->variable_count, &bench->curves[0].writable, 3 * board->curve_count,
                             &bench->functions[0].input, 2 * board->function_count, &state->groups, state->values,
                             state->values_length, state->blocks, state->blocks_length, variable, bytes, count);

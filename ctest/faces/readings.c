@@ -1,9 +1,11 @@
-/* Readings and writings at the edges: refusals 9 to 12. */
+/* Readings, writings, and stores of numbers at the edges: refusals 9 to 12. */
 #include "subjects.h"
 
 /* Four kinds of number at sizes 1, 2, 4 and 8: number 4 * (kind - 1) + place of the size. */
 static struct bsmp_variable numbers[16];
 static const struct bsmp_board number_board = {numbers, 16, NULL, 0, NULL, 0, 5, 0x81};
+static uint8_t number_values[4 * (1 + 2 + 4 + 8)];
+static struct bsmp_state number_state = {number_values, sizeof number_values, NULL, 0, {0, {0, 0, 0, 0, 0}}};
 
 static void make_numbers(void)
 {
@@ -20,16 +22,32 @@ static void bytes_by_hand(uint64_t number, const struct bsmp_variable *variable,
     for (size_t i = 0; i < variable->size; i++) bytes[big ? variable->size - 1u - i : i] = (uint8_t)(number >> 8 * i);
 }
 
+/* A store of a number gave 0: its bytes stand in the variable's place, and the others are as they were. */
+static void check_stored(size_t variable, uint8_t refusal, const uint8_t *bytes)
+{
+    size_t offset = 15 * (variable / 4) + (1u << variable % 4) - 1, size = numbers[variable].size;
+    uint8_t expected[sizeof number_values];
+    memset(expected, UNTOUCHED, sizeof expected);
+    memcpy(expected + offset, bytes, size);
+    check_number("a store of a number", refusal, 0);
+    check(memcmp(number_values, expected, sizeof expected) == 0, "a store of a number", "other bytes");
+    memset(number_values, UNTOUCHED, sizeof number_values);
+}
+
 static void try_signed(size_t variable, int64_t number)
 {
     size_t size = numbers[variable].size;
     uint8_t *written = heap(size), *expected = heap(size);
     bytes_by_hand((uint64_t)number, &numbers[variable], expected);
-    check_number("a signed writing", bsmp_board_write_signed(&number_board, variable, number, written, size), 0);
+    check_number("a signed writing", bsmp_node_write_signed(&number_board, variable, number, written, size), 0);
     check(memcmp(written, expected, size) == 0, "a signed writing", "other bytes");
-    struct bsmp_signed_reading reading = bsmp_board_read_signed(&number_board, variable, expected, size);
+    struct bsmp_signed_reading reading = bsmp_node_read_signed(&number_board, variable, expected, size);
     check_number("a signed reading", reading.refusal, 0);
     check(reading.number == number, "a signed reading", "another number");
+    uint8_t refusal = bsmp_node_store_signed(&number_board, &number_state, variable, number);
+    reading = bsmp_node_value_signed(&number_board, &number_state, variable);
+    check(reading.refusal == 0 && reading.number == number, "a signed value", "another number");
+    check_stored(variable, refusal, expected);
     free(written);
     free(expected);
 }
@@ -39,11 +57,15 @@ static void try_unsigned(size_t variable, uint64_t number)
     size_t size = numbers[variable].size;
     uint8_t *written = heap(size), *expected = heap(size);
     bytes_by_hand(number, &numbers[variable], expected);
-    check_number("an unsigned writing", bsmp_board_write_unsigned(&number_board, variable, number, written, size), 0);
+    check_number("an unsigned writing", bsmp_node_write_unsigned(&number_board, variable, number, written, size), 0);
     check(memcmp(written, expected, size) == 0, "an unsigned writing", "other bytes");
-    struct bsmp_unsigned_reading reading = bsmp_board_read_unsigned(&number_board, variable, expected, size);
+    struct bsmp_unsigned_reading reading = bsmp_node_read_unsigned(&number_board, variable, expected, size);
     check_number("an unsigned reading", reading.refusal, 0);
     check(reading.number == number, "an unsigned reading", "another number");
+    uint8_t refusal = bsmp_node_store_unsigned(&number_board, &number_state, variable, number);
+    reading = bsmp_node_value_unsigned(&number_board, &number_state, variable);
+    check(reading.refusal == 0 && reading.number == number, "an unsigned value", "another number");
+    check_stored(variable, refusal, expected);
     free(written);
     free(expected);
 }
@@ -100,16 +122,17 @@ static void try_reading_refusals(void)
         size_t variable = tries[i].variable, count = tries[i].count;
         const struct bsmp_board *board = &board_a;
         unsigned signed_one = tries[i].of_signed, unsigned_one = tries[i].of_unsigned;
-        check_number("a signed reading", bsmp_board_read_signed(board, variable, bytes, count).refusal, signed_one);
-        check_number("an unsigned reading", bsmp_board_read_unsigned(board, variable, bytes, count).refusal, unsigned_one);
-        check_number("a signed writing", bsmp_board_write_signed(board, variable, 0, bytes, count), signed_one);
-        check_number("an unsigned writing", bsmp_board_write_unsigned(board, variable, 0, bytes, count), unsigned_one);
+        check_number("a signed reading", bsmp_node_read_signed(board, variable, bytes, count).refusal, signed_one);
+        check_number("an unsigned reading", bsmp_node_read_unsigned(board, variable, bytes, count).refusal, unsigned_one);
+        check_number("a signed writing", bsmp_node_write_signed(board, variable, 0, bytes, count), signed_one);
+        check_number("an unsigned writing", bsmp_node_write_unsigned(board, variable, 0, bytes, count), unsigned_one);
     }
 }
 
 void try_readings(void)
 {
     make_numbers();
+    memset(number_values, UNTOUCHED, sizeof number_values);
     for (size_t i = 0; i < 8; i++) try_unsigned_edges(i);
     for (size_t i = 8; i < 16; i++) try_signed_edges(i);
     try_reading_refusals();

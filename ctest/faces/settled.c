@@ -69,7 +69,7 @@ static void say_number(const struct example *example, size_t variable, long numb
     const struct bench *bench = &example->bench;
     const uint8_t *bytes = bench->state.values + place_of(variable);
     size_t count = bench->board.variable_count, size = board_a_variables[variable].size;
-    struct bsmp_signed_reading reading = example->way == INLINE ? bsmp_board_read_signed(&bench->board, variable, bytes, size)
+    struct bsmp_signed_reading reading = example->way == INLINE ? bsmp_node_value_signed(&bench->board, &bench->state, variable)
                                                                 : bsmp_read_signed(bench->variables, count, variable, bytes, size);
     check_number(example->packet, reading.refusal, 0);
     check(reading.number == number, example->packet, "the variable reads as another number");

@@ -11,5 +11,6 @@ void try_tables(int way);
 void try_results_and_stores(int way);
 void try_null(void);
 void try_readings(void);
+void try_places_and_values(void);
 
 #endif

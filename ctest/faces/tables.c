@@ -88,6 +88,22 @@ static const struct wrong {
     {"a group of an undeclared variable", false, group_undeclared},
 };
 
+/* Whatever else is wrong with the call, and though the readings may see nothing wrong. */
+static void try_wrong_values(struct bench *bench, const char *name)
+{
+    const struct bsmp_board *board = &bench->board;
+    struct bsmp_state *state = &bench->state;
+    static const size_t variables[] = {0, 1, 2, SIZE_MAX};
+    for (size_t i = 0; i < sizeof variables / sizeof variables[0]; i++) {
+        struct bsmp_place place = bsmp_node_place(board, state, variables[i]);
+        check(place.refusal == BSMP_BOARD_UNUSABLE && place.offset == 0 && place.size == 0, name, "a place was given");
+        check_number(name, bsmp_node_value_signed(board, state, variables[i]).refusal, BSMP_BOARD_UNUSABLE);
+        check_number(name, bsmp_node_value_unsigned(board, state, variables[i]).refusal, BSMP_BOARD_UNUSABLE);
+        check_number(name, bsmp_node_store_signed(board, state, variables[i], INT64_MAX), BSMP_BOARD_UNUSABLE);
+        check_number(name, bsmp_node_store_unsigned(board, state, variables[i], UINT64_MAX), BSMP_BOARD_UNUSABLE);
+    }
+}
+
 static void try_wrong(int way, const struct wrong *wrong)
 {
     static const uint8_t packet[] = {5, 0x20, 0, 2, 1, 0x66, 0x72}, bytes[4] = {0};
@@ -101,8 +117,9 @@ static void try_wrong(int way, const struct wrong *wrong)
     outcome = result_by(way, &bench, &result);
     check_outcome(wrong->name, way, &bench, &outcome, packet, "refused 1");
     check_number(wrong->name, store_by(way, &bench, 0, bytes, 4), BSMP_BOARD_UNUSABLE);
+    if (way == INLINE) try_wrong_values(&bench, wrong->name);
     check(digest(&bench) == before, wrong->name, "a refusal changed something");
-    struct bsmp_signed_reading reading = bsmp_board_read_signed(&bench.board, 0, bytes, 4);
+    struct bsmp_signed_reading reading = bsmp_node_read_signed(&bench.board, 0, bytes, 4);
     check_number(wrong->name, reading.refusal, wrong->of_variables ? BSMP_BOARD_UNUSABLE : 0);
     end(&bench);
 }

@@ -2,7 +2,7 @@
  *
  * A packet is what stands between two silences. The interrupts collect it; the main loop hands it to the library and sends the reply. While
  * the library has the packet, the interrupts leave it alone. */
-#include "board_a.h"
+#include "../board_a.h"
 
 #ifndef SILENCE
 #define SILENCE 5 /* milliseconds without a byte that end a packet */
@@ -79,23 +79,23 @@ static struct bsmp_state state;
 /* Function 0 stands for a real board's work: 1000 divided by its input, most significant byte first, or error 1 if that is 0. */
 static struct bsmp_outcome run_function(const struct bsmp_outcome *run, const uint8_t *input)
 {
-    if (input[0] == 0) return bsmp_board_function_failed(&board_a, &state, run->function, run->due, 1, reply, sizeof reply);
+    if (input[0] == 0) return bsmp_node_function_failed(&board_a, &state, run->function, run->due, 1, reply, sizeof reply);
     unsigned quotient = 1000u / input[0];
     uint8_t output[2] = {(uint8_t)(quotient >> 8), (uint8_t)quotient};
-    return bsmp_board_function_gave(&board_a, &state, run->function, run->due, output, sizeof output, reply, sizeof reply);
+    return bsmp_node_function_gave(&board_a, &state, run->function, run->due, output, sizeof output, reply, sizeof reply);
 }
 
 /* The packet is given back before the reply is sent, which may be followed at once. Refusals are not answered: the line stays quiet. */
 static void answer(void)
 {
-    struct bsmp_outcome outcome = bsmp_board_packet(&board_a, &state, 0, packet, packet_length, reply, sizeof reply);
+    struct bsmp_outcome outcome = bsmp_node_packet(&board_a, &state, 0, packet, packet_length, reply, sizeof reply);
     if (outcome.kind == BSMP_RUN) outcome = run_function(&outcome, packet + outcome.input);
     __asm__ volatile("" ::: "memory");
     step = IDLE;
     if (outcome.kind == BSMP_REPLY) send(reply, outcome.length);
 }
 
-/* Between two packets a real board would store what it measured, by bsmp_board_store_value. */
+/* Between two packets a real board would store what it measured, by bsmp_node_store. */
 static void serve(void)
 {
     state = board_a_fresh(values, blocks);

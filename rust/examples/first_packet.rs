@@ -1,6 +1,7 @@
 //! Board A of 01 answers its first packet: read variable 0, whose bytes mean -3.
 use cruachvel::{
     Address, Board, Curve, Function, Kind, Node, Outcome, Refusal, Variable, VariableNumber,
+    REPLY_ROOM,
 };
 
 fn main() -> Result<(), Refusal> {
@@ -25,11 +26,12 @@ fn main() -> Result<(), Refusal> {
     node.store(VariableNumber(1), &[0x5A])?;
     node.store_unsigned(VariableNumber(2), 0x1234)?;
 
-    let request = [0x05, 0x10, 0x00, 0x01, 0x00, 0xEA];
-    if let Outcome::Reply(reply) = node.packet(&request) {
+    let packet = [0x05, 0x10, 0x00, 0x01, 0x00, 0xEA];
+    let mut reply = [0; REPLY_ROOM];
+    if let Outcome::Reply(reply) = node.packet(&packet, &mut reply) {
         println!("reply {:02X?}", reply);
-        let value = reply[4..reply.len() - 1].to_vec(); // after destination, 11 and SIZE; before the checksum
-        println!("variable 0 is {}", node.read_signed(probe, &value)?);
+        let value = &reply[4..reply.len() - 1]; // after destination, 11 and SIZE; before the checksum
+        println!("variable 0 is {}", node.read_signed(probe, value)?);
     }
     Ok(())
 }

@@ -4,11 +4,15 @@ use std::ops::Range;
 /// The most variables that a board may have.
 pub const MOST_VARIABLES: usize = 64;
 /// The most bytes that all variables together may have.
-pub const MOST_VALUES: usize = 4096;
-/// The most bytes that all curves together may have.
+pub const MOST_VALUE_BYTES: usize = 4096;
+/// The most blocks that a curve may have.
 pub const MOST_BLOCKS: usize = 65536;
-/// The longest packet, and the least length of a reply buffer.
+/// The most bytes that all curves together may have.
+pub const MOST_CURVE_BYTES: usize = 65536;
+/// The longest packet.
 pub const MOST_PACKET: usize = 4104;
+/// The least length of a reply buffer.
+pub const REPLY_ROOM: usize = 4104;
 
 /// The number of a variable. Variables, groups, curves and functions are each numbered from 0 on their own.
 #[derive(Clone, Copy, Debug, PartialEq, Eq, PartialOrd, Ord, Hash)]
@@ -91,26 +95,26 @@ pub struct Curve {
     /// The type: 0 read-only, 1 writable.
     pub writable: u32,
     /// The block size: 1 to 4,096 bytes.
-    pub size: u32,
+    pub block_size: u32,
     /// How many blocks: 1 to 65,536.
     pub blocks: u32,
 }
 
 impl Curve {
-    /// A read-only curve of `blocks` blocks of `size` bytes.
-    pub const fn read_only(size: u32, blocks: u32) -> Curve {
+    /// A read-only curve of `blocks` blocks of `block_size` bytes.
+    pub const fn read_only(block_size: u32, blocks: u32) -> Curve {
         Curve {
             writable: 0,
-            size,
+            block_size,
             blocks,
         }
     }
 
-    /// A writable curve of `blocks` blocks of `size` bytes.
-    pub const fn writable(size: u32, blocks: u32) -> Curve {
+    /// A writable curve of `blocks` blocks of `block_size` bytes.
+    pub const fn writable(block_size: u32, blocks: u32) -> Curve {
         Curve {
             writable: 1,
-            size,
+            block_size,
             blocks,
         }
     }
@@ -226,15 +230,15 @@ impl Board {
 
     /// The length of the variables' store. Past the most that 01 allows no length is right, and the most is given.
     pub fn values_length(&self) -> usize {
-        sizes(&self.variables).min(MOST_VALUES)
+        sizes(&self.variables).min(MOST_VALUE_BYTES)
     }
 
     /// The length of the curves' store. Past the most that 01 allows no length is right, and the most is given.
     pub fn blocks_length(&self) -> usize {
         let bytes = self.curves.iter().fold(0u64, |sum, curve| {
-            sum.saturating_add(u64::from(curve.size) * u64::from(curve.blocks))
+            sum.saturating_add(u64::from(curve.block_size) * u64::from(curve.blocks))
         });
-        bytes.min(MOST_BLOCKS as u64) as usize
+        bytes.min(MOST_CURVE_BYTES as u64) as usize
     }
 }
 

@@ -10,16 +10,16 @@ use crate::{
 /// `values` is the variables' store and `blocks` the curves' store, each of exactly the length that the records add up
 /// to; bit n of `busy` marks variable n as busy. Refusals 1 to 6.
 #[allow(clippy::too_many_arguments)]
-pub fn packet<'a>(
+pub fn packet<'packet, 'reply>(
     table: &Table,
     groups: &mut Groups,
     address: Address,
     busy: u64,
     values: &mut [u8],
     blocks: &mut [u8],
-    request: &'a [u8],
-    reply: &'a mut [u8],
-) -> Outcome<'a> {
+    packet: &'packet [u8],
+    reply: &'reply mut [u8],
+) -> Outcome<'packet, 'reply> {
     // SAFETY: each pointer is a slice's or a reference's, with its length; Rust's borrows keep what is written apart.
     let told = unsafe {
         raw::bsmp_packet(
@@ -37,20 +37,20 @@ pub fn packet<'a>(
             values.len(),
             blocks.as_mut_ptr(),
             blocks.len(),
-            request.as_ptr(),
-            request.len(),
+            packet.as_ptr(),
+            packet.len(),
             reply.as_mut_ptr(),
             reply.len(),
         )
     };
-    Outcome::told(told, request, reply)
+    Outcome::told(told, packet, reply)
 }
 
 /// Hands in a function's result and whether an answer was due; writes reply 51 or 53, or stays silent if none was due.
 ///
 /// Refusals 1, 3, 7 and 8; 8 only for a successful result.
 #[allow(clippy::too_many_arguments)]
-pub fn function_result<'a>(
+pub fn function_result<'reply>(
     table: &Table,
     groups: &Groups,
     values: &[u8],
@@ -58,8 +58,8 @@ pub fn function_result<'a>(
     function: FunctionNumber,
     due: bool,
     ran: Ran,
-    reply: &'a mut [u8],
-) -> Outcome<'a> {
+    reply: &'reply mut [u8],
+) -> Outcome<'static, 'reply> {
     let (failed, error, output) = match ran {
         Ran::Gave(output) => (false, 0, output),
         Ran::Failed(error) => (true, error, &[][..]),
@@ -78,7 +78,7 @@ pub fn function_result<'a>(
             values.len(),
             blocks.as_ptr(),
             blocks.len(),
-            function.0 as u64,
+            function.0,
             due,
             failed,
             error,
@@ -114,7 +114,7 @@ pub fn board_store(
             values.len(),
             blocks.as_ptr(),
             blocks.len(),
-            variable.0 as u64,
+            variable.0,
             bytes.as_ptr(),
             bytes.len(),
         )
@@ -173,12 +173,12 @@ pub fn write_unsigned(
 
 // One of the two readings.
 fn read<T>(
-    entry: unsafe extern "C" fn(*const Variable, usize, u64, *const u8, usize) -> T,
+    entry: unsafe extern "C" fn(*const Variable, usize, usize, *const u8, usize) -> T,
     variables: &[Variable],
     variable: VariableNumber,
     bytes: &[u8],
 ) -> T {
-    let (number, count) = (variable.0 as u64, variables.len());
+    let (number, count) = (variable.0, variables.len());
     // SAFETY: as for `packet`.
     unsafe {
         entry(
@@ -193,7 +193,7 @@ fn read<T>(
 
 // One of the two ways back.
 fn write<N>(
-    entry: unsafe extern "C" fn(*const Variable, usize, u64, N, *mut u8, usize) -> u8,
+    entry: unsafe extern "C" fn(*const Variable, usize, usize, N, *mut u8, usize) -> u8,
     variables: &[Variable],
     variable: VariableNumber,
     number: N,
@@ -204,7 +204,7 @@ fn write<N>(
         entry(
             variables.as_ptr(),
             variables.len(),
-            variable.0 as u64,
+            variable.0,
             number,
             buffer.as_mut_ptr(),
             buffer.len(),

@@ -6,20 +6,21 @@
 //! fit ends in a [`Refusal`] that changes nothing.
 //!
 //! ```
-//! use cruachvel::{packet, Address, Groups, Kind, Outcome, Table, Variable};
+//! use cruachvel::{packet, Address, Groups, Kind, Outcome, Table, Variable, REPLY_ROOM};
 //!
 //! let variables = [Variable::writable(1, Kind::Plain)];
 //! let table = Table::new(&variables, &[], &[]);
 //! let address = Address { own: 5, multicast: 0x81 };
-//! let (mut groups, mut values, mut reply) = (Groups::NONE, [0x5A], [0; 4104]);
-//! let request = [0x05, 0x24, 0x00, 0x03, 0x00, 0x54, 0x0F, 0x71]; // invert the low four bits of variable 0
-//! let outcome = packet(&table, &mut groups, address, 0, &mut values, &mut [], &request, &mut reply);
+//! let (mut groups, mut values, mut reply) = (Groups::NONE, [0x5A], [0; REPLY_ROOM]);
+//! let invert = [0x05, 0x24, 0x00, 0x03, 0x00, 0x54, 0x0F, 0x71]; // invert the low four bits of variable 0
+//! let outcome = packet(&table, &mut groups, address, 0, &mut values, &mut [], &invert, &mut reply);
 //! assert_eq!(outcome, Outcome::Reply(&[0x00, 0xE0, 0x00, 0x00, 0x20]));
 //! assert_eq!(values, [0x55]);
 //! ```
 //!
-//! Words and numbers are those of the project's document 01. The proved library is for x86-64; over
-//! the portable edition (`docs/BOARDS.md`), whose archive RATTLE_LIB names then, this crate works elsewhere too.
+//! Words and numbers are those of the project's document 01, names those of the C header. The proved library is for
+//! x86-64; over the portable edition (`docs/BOARDS.md`), whose archive RATTLE_LIB names then, this crate works on other
+//! machines of 64 bits too.
 #![warn(missing_docs)]
 
 mod board;
@@ -27,10 +28,11 @@ mod entries;
 mod node;
 mod outcome;
 pub mod raw;
+pub mod wire;
 
 pub use board::{
     Address, Board, Curve, Function, FunctionNumber, Groups, Kind, Table, Variable, VariableNumber,
-    MOST_BLOCKS, MOST_PACKET, MOST_VALUES, MOST_VARIABLES,
+    MOST_BLOCKS, MOST_CURVE_BYTES, MOST_PACKET, MOST_VALUE_BYTES, MOST_VARIABLES, REPLY_ROOM,
 };
 pub use entries::{
     board_store, function_result, packet, read_signed, read_unsigned, write_signed, write_unsigned,

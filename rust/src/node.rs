@@ -1,8 +1,8 @@
-//! A node that owns its board, its state and its reply buffer.
+//! A node that owns its board and its state.
 use crate::{
     entries, Board, FunctionNumber, Groups, Outcome, Ran, Refusal, Variable, VariableNumber,
-    MOST_PACKET,
 };
+use std::ops::Range;
 
 /// A board's state, which one call leaves to the next.
 #[derive(Clone, Debug, PartialEq, Eq)]
@@ -31,28 +31,47 @@ impl State {
 /// Board, state and busy marks are open to the board's own program. Whatever it puts there is taken; a board that
 /// breaks 01's table is refused by each call.
 ///
-/// ```
-/// use cruachvel::{Address, Board, Kind, Node, Outcome, Ran, Function, Variable, VariableNumber};
+/// The reply buffer is the caller's, so that a reply can be held while the node is used:
 ///
+/// ```
+/// use cruachvel::{Address, Board, Kind, Node, Outcome, Variable, VariableNumber, REPLY_ROOM};
+///
+/// let probe = VariableNumber(0);
 /// let mut node = Node::new(Board {
 ///     variables: vec![Variable::read_only(2, Kind::SignedBig)],
 ///     curves: vec![],
-///     functions: vec![Function { input: 0, output: 1 }],
+///     functions: vec![],
 ///     address: Address { own: 5, multicast: 0x01 },
 /// });
-/// node.store_signed(VariableNumber(0), -3)?;
-/// assert_eq!(
-///     node.packet(&[0x05, 0x10, 0x00, 0x01, 0x00, 0xEA]),
-///     Outcome::Reply(&[0x00, 0x11, 0x00, 0x02, 0xFF, 0xFD, 0xF1])
-/// );
+/// let mut reply = [0; REPLY_ROOM];
 ///
-/// if let Outcome::Run { function, due, .. } = node.packet(&[0x05, 0x50, 0x00, 0x01, 0x00, 0xAA]) {
-///     let reply = node.function_result(function, due, Ran::Gave(&[0x07]));
-///     assert_eq!(reply, Outcome::Reply(&[0x00, 0x51, 0x00, 0x01, 0x07, 0xA7]));
-/// }
+/// node.store_signed(probe, -3)?;
+/// let outcome = node.packet(&[0x05, 0x10, 0x00, 0x01, 0x00, 0xEA], &mut reply);
+/// node.store_signed(probe, 4)?;
+/// assert_eq!(node.value_signed(probe), Ok(4));
+/// assert_eq!(outcome, Outcome::Reply(&[0x00, 0x11, 0x00, 0x02, 0xFF, 0xFD, 0xF1]));
 /// # Ok::<(), cruachvel::Refusal>(())
 /// ```
-#[derive(Clone, Debug)]
+///
+/// A function's input is held likewise, and stands in the packet:
+///
+/// ```
+/// # use cruachvel::{Address, Board, Function, Kind, Node, Outcome, Ran, Variable, REPLY_ROOM};
+/// # let mut node = Node::new(Board {
+/// #     variables: vec![Variable::read_only(2, Kind::SignedBig)],
+/// #     curves: vec![],
+/// #     functions: vec![Function { input: 1, output: 1 }],
+/// #     address: Address { own: 5, multicast: 0x01 },
+/// # });
+/// # let mut reply = [0; REPLY_ROOM];
+/// let packet = [0x05, 0x50, 0x00, 0x02, 0x00, 0x06, 0xA3];
+/// let mut outcome = node.packet(&packet, &mut reply);
+/// if let Outcome::Run { function, input, due } = outcome {
+///     outcome = node.function_result(function, due, Ran::Gave(&[input[0] + 1]), &mut reply);
+/// }
+/// assert_eq!(outcome, Outcome::Reply(&[0x00, 0x51, 0x00, 0x01, 0x07, 0xA7]));
+/// ```
+#[derive(Clone, Debug, PartialEq, Eq)]
 pub struct Node {
     /// The board.
     pub board: Board,
@@ -60,7 +79,6 @@ pub struct Node {
     pub state: State,
     /// Busy marks, bit n for variable n. They stop writes only.
     pub busy: u64,
-    reply: Box<[u8]>,
 }
 
 // One of the two entries that write a number as a variable's bytes.
@@ -79,12 +97,15 @@ impl Node {
             board,
             state,
             busy: 0,
-            reply: vec![0; MOST_PACKET].into(),
         }
     }
 
-    /// Carries out one packet. Refusals 1, 2, 4, 5 and 6.
-    pub fn packet<'a>(&'a mut self, request: &'a [u8]) -> Outcome<'a> {
+    /// Carries out one packet. Refusals 1 to 6.
+    pub fn packet<'packet, 'reply>(
+        &mut self,
+        packet: &'packet [u8],
+        reply: &'reply mut [u8],
+    ) -> Outcome<'packet, 'reply> {
         entries::packet(
             &self.board.table(),
             &mut self.state.groups,
@@ -92,18 +113,19 @@ impl Node {
             self.busy,
             &mut self.state.values,
             &mut self.state.blocks,
-            request,
-            &mut self.reply,
+            packet,
+            reply,
         )
     }
 
-    /// Hands in a function's result and whether an answer was due. Refusals 1, 7 and 8.
-    pub fn function_result(
-        &mut self,
+    /// Hands in a function's result and whether an answer was due. Refusals 1, 3, 7 and 8.
+    pub fn function_result<'reply>(
+        &self,
         function: FunctionNumber,
         due: bool,
         ran: Ran,
-    ) -> Outcome<'_> {
+        reply: &'reply mut [u8],
+    ) -> Outcome<'static, 'reply> {
         entries::function_result(
             &self.board.table(),
             &self.state.groups,
@@ -112,7 +134,7 @@ impl Node {
             function,
             due,
             ran,
-            &mut self.reply,
+            reply,
         )
     }
 
@@ -128,43 +150,64 @@ impl Node {
         )
     }
 
-    /// Stores a number into a signed variable. Refusals 1, 9, 11 and 12.
+    /// Stores a number into a signed variable. Refusals 1, 9, 11 and 12, in this order.
     pub fn store_signed(&mut self, variable: VariableNumber, number: i64) -> Result<(), Refusal> {
         self.store_number(entries::write_signed, variable, number)
     }
 
-    /// Stores a number into an unsigned variable. Refusals 1, 9, 11 and 12.
+    /// Stores a number into an unsigned variable. Refusals 1, 9, 11 and 12, in this order.
     pub fn store_unsigned(&mut self, variable: VariableNumber, number: u64) -> Result<(), Refusal> {
         self.store_number(entries::write_unsigned, variable, number)
     }
 
-    /// Reads a signed variable's bytes, as a reply carries them, as a number. Refusals 1, 9, 11 and 10.
+    /// The current value of a signed variable as a number. Refusals 1, 9 and 11, in this order.
+    pub fn value_signed(&self, variable: VariableNumber) -> Result<i64, Refusal> {
+        self.read_signed(variable, self.value(variable)?)
+    }
+
+    /// The current value of an unsigned variable as a number. Refusals 1, 9 and 11, in this order.
+    pub fn value_unsigned(&self, variable: VariableNumber) -> Result<u64, Refusal> {
+        self.read_unsigned(variable, self.value(variable)?)
+    }
+
+    /// The current value of a variable as bytes. Refusals 1 and 9, in this order.
+    pub fn value(&self, variable: VariableNumber) -> Result<&[u8], Refusal> {
+        Ok(&self.state.values[self.place(variable)?])
+    }
+
+    /// Where a variable's bytes stand in the store of values. Refusals 1 and 9, in this order.
+    pub fn place(&self, variable: VariableNumber) -> Result<Range<usize>, Refusal> {
+        self.usable()?;
+        self.board.place(variable).ok_or(Refusal::NoSuchVariable)
+    }
+
+    /// Reads a signed variable's bytes, as a reply carries them, as a number. Refusals 1, 9, 11 and 10, in this order.
     pub fn read_signed(&self, variable: VariableNumber, bytes: &[u8]) -> Result<i64, Refusal> {
         entries::read_signed(&self.board.variables, variable, bytes)
     }
 
-    /// Reads an unsigned variable's bytes, as a reply carries them, as a number. Refusals 1, 9, 11 and 10.
+    /// Reads an unsigned variable's bytes, as a reply carries them, as a number. Refusals 1, 9, 11 and 10, in this order.
     pub fn read_unsigned(&self, variable: VariableNumber, bytes: &[u8]) -> Result<u64, Refusal> {
         entries::read_unsigned(&self.board.variables, variable, bytes)
     }
 
-    /// A variable's bytes, if the board has it and the store is long enough to hold it.
-    pub fn value(&self, variable: VariableNumber) -> Option<&[u8]> {
-        self.state.values.get(self.board.place(variable)?)
-    }
-
+    // The number is written where it is to stand; that is a store, as a refused writing leaves its buffer as it was.
     fn store_number<N>(
         &mut self,
         write: Write<N>,
         variable: VariableNumber,
         number: N,
     ) -> Result<(), Refusal> {
-        // A variable that the board lacks has no size; the entry then refuses with 9.
-        let record = self.board.variables.get(variable.0);
-        let size = record.map_or(0, |record| usize::from(record.size));
-        let mut buffer = [0; u8::MAX as usize];
-        let bytes = &mut buffer[..size];
-        write(&self.board.variables, variable, number, bytes)?;
-        self.store(variable, bytes)
+        let place = self.place(variable)?;
+        let bytes = &mut self.state.values[place];
+        write(&self.board.variables, variable, number, bytes)
+    }
+
+    // Without room for a reply, a function's result is refused with 1 if the board is unusable, and else with 3.
+    fn usable(&self) -> Result<(), Refusal> {
+        match self.function_result(FunctionNumber(0), false, Ran::Failed(0), &mut []) {
+            Outcome::Refused(Refusal::ReplyBufferShort) => Ok(()),
+            _ => Err(Refusal::BoardUnusable),
+        }
     }
 }

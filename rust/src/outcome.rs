@@ -97,11 +97,12 @@ impl fmt::Display for Refusal {
 
 impl std::error::Error for Refusal {}
 
-/// What a packet or a function's result ends in.
+/// What a packet or a function's result ends in. A reply borrows the reply buffer, an input the packet; neither borrows
+/// the node.
 #[derive(Clone, Copy, Debug, PartialEq, Eq)]
-pub enum Outcome<'a> {
+pub enum Outcome<'packet, 'reply> {
     /// A reply: the bytes at the start of the reply buffer. No others were written.
-    Reply(&'a [u8]),
+    Reply(&'reply [u8]),
     /// Nothing is to be sent, and the reply buffer is as it was.
     Silence,
     /// A function is to be run; the reply buffer is as it was.
@@ -109,7 +110,7 @@ pub enum Outcome<'a> {
         /// Which one.
         function: FunctionNumber,
         /// The input, within the packet.
-        input: &'a [u8],
+        input: &'packet [u8],
         /// Whether an answer is due; it isn't after a multicast packet.
         due: bool,
     },
@@ -117,15 +118,15 @@ pub enum Outcome<'a> {
     Refused(Refusal),
 }
 
-impl<'a> Outcome<'a> {
-    pub(crate) fn told(told: Told, request: &'a [u8], reply: &'a [u8]) -> Outcome<'a> {
-        let (input, length) = (told.input as usize, told.length as usize);
+impl<'packet, 'reply> Outcome<'packet, 'reply> {
+    pub(crate) fn told(told: Told, packet: &'packet [u8], reply: &'reply [u8]) -> Self {
+        let (input, length) = (told.input, told.length);
         match told.kind {
             Told::REPLY => Outcome::Reply(&reply[..length]),
             Told::SILENCE => Outcome::Silence,
             Told::RUN => Outcome::Run {
-                function: FunctionNumber(told.function as usize),
-                input: &request[input..input + length],
+                function: FunctionNumber(told.function),
+                input: &packet[input..input + length],
                 due: told.due,
             },
             _ => Outcome::Refused(Refusal::told(u64::from(told.refusal))),

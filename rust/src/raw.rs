@@ -16,11 +16,11 @@ pub struct Told {
     /// Whether the function to be run is due an answer.
     pub due: bool,
     /// The number of the function to be run.
-    pub function: u64,
+    pub function: usize,
     /// The place in the packet where that function's input starts.
-    pub input: u64,
+    pub input: usize,
     /// How many bytes the reply has, or the input.
-    pub length: u64,
+    pub length: usize,
 }
 
 impl Told {
@@ -56,10 +56,12 @@ pub struct ToldUnsigned {
 
 // The archive's layouts; a build in which they differ must not exist.
 const _: () = {
-    assert!(size_of::<usize>() == 8);
+    assert!(size_of::<usize>() == 4 || size_of::<usize>() == 8);
     assert!(size_of::<Variable>() == 3 && align_of::<Variable>() == 1);
     assert!(size_of::<Groups>() == 48 && align_of::<Groups>() == 8);
-    assert!(size_of::<Told>() == 32 && align_of::<Told>() == 8);
+    assert!(
+        size_of::<Told>() == 4 * size_of::<usize>() && align_of::<Told>() == size_of::<usize>()
+    );
     assert!(size_of::<ToldSigned>() == 16 && align_of::<ToldSigned>() == 8);
     assert!(size_of::<ToldUnsigned>() == 16 && align_of::<ToldUnsigned>() == 8);
 };
@@ -81,10 +83,10 @@ extern "C" {
         values_length: usize,
         blocks: *mut u8,
         blocks_length: usize,
-        request: *const u8,
-        request_length: usize,
+        packet: *const u8,
+        packet_length: usize,
         reply: *mut u8,
-        reply_length: usize,
+        reply_room: usize,
     ) -> Told;
 
     /// [`crate::function_result`] in numbers; `output` counts only if not `failed`, `error` only if `failed`.
@@ -100,14 +102,14 @@ extern "C" {
         values_length: usize,
         blocks: *const u8,
         blocks_length: usize,
-        function: u64,
+        function: usize,
         due: bool,
         failed: bool,
         error: u8,
         output: *const u8,
         output_length: usize,
         reply: *mut u8,
-        reply_length: usize,
+        reply_room: usize,
     ) -> Told;
 
     /// [`crate::board_store`] in numbers: 0, or the refusal's.
@@ -123,7 +125,7 @@ extern "C" {
         values_length: usize,
         blocks: *const u8,
         blocks_length: usize,
-        variable: u64,
+        variable: usize,
         bytes: *const u8,
         bytes_length: usize,
     ) -> u8;
@@ -132,7 +134,7 @@ extern "C" {
     pub fn bsmp_read_signed(
         variables: *const Variable,
         variable_count: usize,
-        variable: u64,
+        variable: usize,
         bytes: *const u8,
         bytes_length: usize,
     ) -> ToldSigned;
@@ -141,7 +143,7 @@ extern "C" {
     pub fn bsmp_read_unsigned(
         variables: *const Variable,
         variable_count: usize,
-        variable: u64,
+        variable: usize,
         bytes: *const u8,
         bytes_length: usize,
     ) -> ToldUnsigned;
@@ -150,7 +152,7 @@ extern "C" {
     pub fn bsmp_write_signed(
         variables: *const Variable,
         variable_count: usize,
-        variable: u64,
+        variable: usize,
         number: i64,
         buffer: *mut u8,
         buffer_length: usize,
@@ -160,7 +162,7 @@ extern "C" {
     pub fn bsmp_write_unsigned(
         variables: *const Variable,
         variable_count: usize,
-        variable: u64,
+        variable: usize,
         number: u64,
         buffer: *mut u8,
         buffer_length: usize,
@@ -187,10 +189,12 @@ mod tests {
             &told.kind as *const u8 as usize,
             &told.refusal as *const u8 as usize,
             &told.due as *const bool as usize,
-            &told.function as *const u64 as usize,
-            &told.input as *const u64 as usize,
-            &told.length as *const u64 as usize,
+            &told.function as *const usize as usize,
+            &told.input as *const usize as usize,
+            &told.length as *const usize as usize,
         ];
-        assert_eq!(places.map(|place| place - start), [0, 1, 2, 8, 16, 24]);
+        let word = size_of::<usize>();
+        let right = [0, 1, 2, word, 2 * word, 3 * word];
+        assert_eq!(places.map(|place| place - start), right);
     }
 }

@@ -1,8 +1,13 @@
 //! The owned node and the types of the face.
 use cruachvel::{
     Address, Board, Curve, Function, FunctionNumber, Groups, Kind, Node, Outcome, Ran, Refusal,
-    State, Variable, VariableNumber, MOST_BLOCKS, MOST_VALUES,
+    State, Variable, VariableNumber, MOST_CURVE_BYTES, MOST_VALUE_BYTES, REPLY_ROOM,
 };
+
+const SIGNED: VariableNumber = VariableNumber(0);
+const PLAIN: VariableNumber = VariableNumber(1);
+const UNSIGNED: VariableNumber = VariableNumber(2);
+const NONE: [VariableNumber; 2] = [VariableNumber(3), VariableNumber(usize::MAX)];
 
 fn board_a() -> Board {
     Board {
@@ -67,38 +72,127 @@ fn a_fresh_node_has_stores_of_the_lengths_that_its_records_add_up_to() {
     let mut node = Node::new(board_a());
     assert_eq!((node.state.values.len(), node.state.blocks.len()), (7, 8));
     let version = Outcome::Reply(&[0x00, 0x01, 0x00, 0x03, 0x02, 0x14, 0x00, 0xE6]);
-    assert_eq!(node.packet(&[0x05, 0x00, 0x00, 0x00, 0xFB]), version);
+    let mut reply = [0; REPLY_ROOM];
+    assert_eq!(
+        node.packet(&[0x05, 0x00, 0x00, 0x00, 0xFB], &mut reply),
+        version
+    );
+}
+
+#[test]
+fn replies_are_held_while_the_node_is_used() {
+    let mut node = node_a();
+    let (mut first, mut second) = ([0; REPLY_ROOM], [0; REPLY_ROOM]);
+    let read = [0x05, 0x10, 0x00, 0x01, 0x00, 0xEA];
+    let before = node.packet(&read, &mut first);
+    assert_eq!(node.store_signed(SIGNED, 1), Ok(()));
+    let after = node.packet(&read, &mut second);
+    assert_eq!(node.value_signed(SIGNED), Ok(1));
+    let minus_3 = [0x00, 0x11, 0x00, 0x04, 0xFF, 0xFF, 0xFF, 0xFD, 0xF1];
+    let plus_1 = [0x00, 0x11, 0x00, 0x04, 0x00, 0x00, 0x00, 0x01, 0xEA];
+    assert_eq!(
+        (before, after),
+        (Outcome::Reply(&minus_3), Outcome::Reply(&plus_1))
+    );
+}
+
+#[test]
+fn an_input_is_held_while_the_reply_buffer_is_used() {
+    let mut node = node_a();
+    let mut reply = [0; REPLY_ROOM];
+    let packet = [0x05, 0x50, 0x00, 0x02, 0x00, 0x77, 0x32];
+    let input = match node.packet(&packet, &mut reply) {
+        Outcome::Run { input, .. } => input,
+        other => panic!("no function to be run: {:?}", other),
+    };
+    let gave = node.function_result(FunctionNumber(0), true, Ran::Gave(&[1, 2]), &mut reply);
+    assert!(matches!(gave, Outcome::Reply(_)));
+    assert_eq!(input, [0x77]);
+}
+
+#[test]
+fn a_reply_buffer_that_is_short_is_refused() {
+    let mut node = node_a();
+    let mut reply = [0xAA; REPLY_ROOM - 1];
+    let short = Outcome::Refused(Refusal::ReplyBufferShort);
+    assert_eq!(node.packet(&[], &mut reply), short);
+    let result = node.function_result(FunctionNumber(9), false, Ran::Failed(0), &mut reply);
+    assert_eq!(result, short);
+    assert_eq!(reply, [0xAA; REPLY_ROOM - 1]);
 }
 
 #[test]
 fn numbers_are_stored_and_read_back() {
     let mut node = Node::new(board_a());
-    let (signed, plain, unsigned) = (VariableNumber(0), VariableNumber(1), VariableNumber(2));
-    assert_eq!(node.store_signed(signed, -3), Ok(()));
-    assert_eq!(node.store_unsigned(unsigned, 0x1234), Ok(()));
-    assert_eq!(node.store(plain, &[0x5A]), Ok(()));
-    assert_eq!(node.state, node_a().state);
-    let value = node.value(signed).expect("it is declared");
-    assert_eq!(node.read_signed(signed, value), Ok(-3));
-    let value = node.value(unsigned).expect("it is declared");
-    assert_eq!(node.read_unsigned(unsigned, value), Ok(0x1234));
+    assert_eq!(node.store_signed(SIGNED, -3), Ok(()));
+    assert_eq!(node.store_unsigned(UNSIGNED, 0x1234), Ok(()));
+    assert_eq!(node.store(PLAIN, &[0x5A]), Ok(()));
+    assert_eq!(node, node_a());
+    assert_eq!(node.value_signed(SIGNED), Ok(-3));
+    assert_eq!(node.value_unsigned(UNSIGNED), Ok(0x1234));
+    assert_eq!(node.value(PLAIN), Ok(&[0x5A][..]));
+    assert_eq!(node.place(UNSIGNED), Ok(5..7));
+    assert_eq!(node.read_signed(SIGNED, &[0xFF, 0xFF, 0xFF, 0xFE]), Ok(-2));
+    assert_eq!(node.read_unsigned(UNSIGNED, &[0x01, 0x02]), Ok(0x0201));
+}
+
+#[test]
+fn values_that_are_no_such_numbers_are_refused() {
+    let node = node_a();
+    for variable in [PLAIN, UNSIGNED] {
+        assert_eq!(node.value_signed(variable), Err(Refusal::WrongKind));
+    }
+    for variable in [PLAIN, SIGNED] {
+        assert_eq!(node.value_unsigned(variable), Err(Refusal::WrongKind));
+    }
+    for variable in NONE {
+        assert_eq!(node.value_signed(variable), Err(Refusal::NoSuchVariable));
+        assert_eq!(node.value_unsigned(variable), Err(Refusal::NoSuchVariable));
+        assert_eq!(node.value(variable), Err(Refusal::NoSuchVariable));
+        assert_eq!(node.place(variable), Err(Refusal::NoSuchVariable));
+    }
 }
 
 #[test]
 fn numbers_that_can_t_be_stored_are_refused_and_change_nothing() {
     let mut node = node_a();
     let refused = [
-        node.store_signed(VariableNumber(3), 0),
-        node.store_unsigned(VariableNumber(usize::MAX), 0),
-        node.store_signed(VariableNumber(1), 0),
-        node.store_unsigned(VariableNumber(0), 0),
-        node.store_signed(VariableNumber(0), 1 << 31),
-        node.store_unsigned(VariableNumber(2), 65536),
+        node.store_signed(NONE[0], i64::MAX),
+        node.store_unsigned(NONE[1], u64::MAX),
+        node.store_signed(PLAIN, i64::MAX),
+        node.store_unsigned(SIGNED, u64::MAX),
+        node.store_signed(SIGNED, 1 << 31),
+        node.store_unsigned(UNSIGNED, 65536),
     ];
     let numbers = refused.map(|result| result.map_or_else(Refusal::number, |()| 0));
     assert_eq!(numbers, [9, 9, 11, 11, 12, 12]);
-    assert_eq!(node.state, node_a().state);
-    assert_eq!(node.value(VariableNumber(3)), None);
+    assert_eq!(node, node_a());
+}
+
+// Each leaves the variable records as they are, so that a reading alone would see nothing wrong.
+#[test]
+fn of_an_unusable_board_nothing_else_is_said() {
+    let spoils: [fn(&mut Node); 4] = [
+        |node| node.state.values.truncate(6),
+        |node| node.state.blocks.push(0),
+        |node| node.state.groups.count = 6,
+        |node| node.board.functions[0].input = 16,
+    ];
+    for spoil in spoils {
+        let mut node = node_a();
+        spoil(&mut node);
+        let spoilt = node.clone();
+        for variable in [SIGNED, PLAIN, UNSIGNED, NONE[0]] {
+            let unusable = Refusal::BoardUnusable;
+            assert_eq!(node.store_signed(variable, i64::MAX), Err(unusable));
+            assert_eq!(node.store_unsigned(variable, u64::MAX), Err(unusable));
+            assert_eq!(node.value_signed(variable), Err(unusable));
+            assert_eq!(node.value_unsigned(variable), Err(unusable));
+            assert_eq!(node.value(variable), Err(unusable));
+            assert_eq!(node.place(variable), Err(unusable));
+        }
+        assert_eq!(node, spoilt);
+    }
 }
 
 #[test]
@@ -109,35 +203,38 @@ fn a_function_is_run_and_its_result_handed_in() {
         input: &[0x77],
         due: true,
     };
+    let mut reply = [0; REPLY_ROOM];
     assert_eq!(
-        node.packet(&[0x05, 0x50, 0x00, 0x02, 0x00, 0x77, 0x32]),
+        node.packet(&[0x05, 0x50, 0x00, 0x02, 0x00, 0x77, 0x32], &mut reply),
         run
     );
-    let gave = node.function_result(FunctionNumber(0), true, Ran::Gave(&[0x01, 0x02]));
-    assert_eq!(
-        gave,
-        Outcome::Reply(&[0x00, 0x51, 0x00, 0x02, 0x01, 0x02, 0xAA])
-    );
-    let failed = node.function_result(FunctionNumber(0), true, Ran::Failed(0xBB));
-    assert_eq!(
-        failed,
-        Outcome::Reply(&[0x00, 0x53, 0x00, 0x01, 0xBB, 0xF1])
-    );
-    let quiet = node.function_result(FunctionNumber(0), false, Ran::Gave(&[0x01, 0x02]));
-    assert_eq!(quiet, Outcome::Silence);
+    let mut result = |due, ran, expected| {
+        let outcome = node.function_result(FunctionNumber(0), due, ran, &mut reply);
+        assert_eq!(outcome, expected);
+    };
+    let gave = Ran::Gave(&[0x01, 0x02]);
+    let reply_51 = Outcome::Reply(&[0x00, 0x51, 0x00, 0x02, 0x01, 0x02, 0xAA]);
+    let reply_53 = Outcome::Reply(&[0x00, 0x53, 0x00, 0x01, 0xBB, 0xF1]);
+    result(true, gave, reply_51);
+    result(true, Ran::Failed(0xBB), reply_53);
+    result(false, gave, Outcome::Silence);
 }
 
 #[test]
 fn busy_marks_stop_writes_only() {
     let mut node = node_a();
     node.busy = 0b010;
+    let mut reply = [0; REPLY_ROOM];
     let busy = Outcome::Reply(&[0x00, 0xE8, 0x00, 0x00, 0x18]);
     assert_eq!(
-        node.packet(&[0x05, 0x20, 0x00, 0x02, 0x01, 0x66, 0x72]),
+        node.packet(&[0x05, 0x20, 0x00, 0x02, 0x01, 0x66, 0x72], &mut reply),
         busy
     );
     let value = Outcome::Reply(&[0x00, 0x11, 0x00, 0x01, 0x5A, 0x94]);
-    assert_eq!(node.packet(&[0x05, 0x10, 0x00, 0x01, 0x01, 0xE9]), value);
+    assert_eq!(
+        node.packet(&[0x05, 0x10, 0x00, 0x01, 0x01, 0xE9], &mut reply),
+        value
+    );
 }
 
 #[test]
@@ -160,16 +257,16 @@ fn an_absurd_board_is_refused_by_each_call() {
     });
     assert_eq!(
         (node.state.values.len(), node.state.blocks.len()),
-        (MOST_VALUES, MOST_BLOCKS)
+        (MOST_VALUE_BYTES, MOST_CURVE_BYTES)
     );
     let unusable = Refusal::BoardUnusable;
-    assert_eq!(node.packet(&[]), Outcome::Refused(unusable));
-    let result = node.function_result(FunctionNumber(0), true, Ran::Failed(0));
+    assert_eq!(node.packet(&[], &mut []), Outcome::Refused(unusable));
+    let result = node.function_result(FunctionNumber(0), true, Ran::Failed(0), &mut []);
     assert_eq!(result, Outcome::Refused(unusable));
     assert_eq!(node.store(VariableNumber(299), &[]), Err(unusable));
     assert_eq!(node.store_signed(VariableNumber(0), 0), Err(unusable));
     assert_eq!(node.read_unsigned(VariableNumber(0), &[]), Err(unusable));
-    assert_eq!(node.value(VariableNumber(299)), None);
+    assert_eq!(node.value(VariableNumber(299)), Err(unusable));
 }
 
 #[test]
@@ -178,7 +275,7 @@ fn a_board_without_variables_is_refused() {
     board.variables.clear();
     let mut node = Node::new(board);
     assert_eq!(
-        node.packet(&[0x05, 0xFB]),
+        node.packet(&[0x05, 0xFB], &mut [0; REPLY_ROOM]),
         Outcome::Refused(Refusal::BoardUnusable)
     );
 }

@@ -2,7 +2,7 @@
 use crate::lent::{all_declared, values_length, Lent};
 use crate::random::Random;
 use cruachvel::{Address, Curve, Groups, Kind, Variable};
-use cruachvel::{MOST_BLOCKS, MOST_VALUES, MOST_VARIABLES};
+use cruachvel::{MOST_BLOCKS, MOST_CURVE_BYTES, MOST_VALUE_BYTES, MOST_VARIABLES};
 
 /// Board A of 01.
 pub fn board_a() -> Lent {
@@ -56,7 +56,7 @@ fn variables(random: &mut Random) -> Vec<Variable> {
     };
     let largest = random.choose(&[1, 4, 8, 8, 16, 127]);
     let writable = random.choose(&[0, 1, 2, 2, 2, 2]);
-    let mut left = MOST_VALUES;
+    let mut left = MOST_VALUE_BYTES;
     let mut variables = Vec::new();
     for rest in (0..count).rev() {
         let size = random.within(1, largest).min(left - rest);
@@ -88,7 +88,7 @@ fn variable(random: &mut Random, size: u8, writable: u8) -> Variable {
 
 /// More variables, and then larger ones, until they have exactly 4,096 bytes together. The first are the last to grow.
 pub fn fill_up(variables: &mut Vec<Variable>) {
-    let mut left = MOST_VALUES.saturating_sub(values_length(variables));
+    let mut left = MOST_VALUE_BYTES.saturating_sub(values_length(variables));
     while left > 0 && variables.len() < MOST_VARIABLES {
         let size = left.min(127);
         variables.push(Variable::writable(size as u8, Kind::Plain));
@@ -116,7 +116,7 @@ fn curves(random: &mut Random) -> Vec<u32> {
 }
 
 fn some_curves(random: &mut Random, largest: usize, most: usize) -> Vec<Curve> {
-    let mut left = MOST_BLOCKS;
+    let mut left = MOST_CURVE_BYTES;
     let mut curves = Vec::new();
     for rest in (0..random.within(1, 8)).rev() {
         let size = random.within(1, largest).min(left - rest);
@@ -130,7 +130,7 @@ fn some_curves(random: &mut Random, largest: usize, most: usize) -> Vec<Curve> {
 fn curve(random: &mut Random, size: usize, blocks: usize) -> Curve {
     Curve {
         writable: random.below(2) as u32,
-        size: size as u32,
+        block_size: size as u32,
         blocks: blocks as u32,
     }
 }

@@ -3,7 +3,7 @@ use crate::packets::packet;
 use cruachvel::{
     Address, FunctionNumber, Groups, Outcome, Ran, Refusal, Table, Variable, VariableNumber,
 };
-use cruachvel::{MOST_BLOCKS, MOST_PACKET};
+use cruachvel::{MOST_CURVE_BYTES, MOST_PACKET};
 use std::ops::Range;
 
 /// Everything that a board lends to a call, right or wrong.
@@ -19,7 +19,7 @@ pub struct Lent {
 }
 
 /// The longest store that is ever lent; a board whose records add up to more gets one that is shorter than that.
-pub const MOST_LENT: usize = MOST_BLOCKS + 4096;
+pub const MOST_LENT: usize = MOST_CURVE_BYTES + 4096;
 
 impl Lent {
     pub fn table(&self) -> Table<'_> {
@@ -37,7 +37,12 @@ impl Lent {
     }
 
     /// The proved node's packet.
-    pub fn packet<'a>(&mut self, busy: u64, request: &'a [u8], reply: &'a mut [u8]) -> Outcome<'a> {
+    pub fn packet<'p, 'r>(
+        &mut self,
+        busy: u64,
+        request: &'p [u8],
+        reply: &'r mut [u8],
+    ) -> Outcome<'p, 'r> {
         let table = Table {
             variables: &self.variables,
             curves: &self.curves,
@@ -67,13 +72,13 @@ impl Lent {
     }
 
     /// The proved node's function result.
-    pub fn function_result<'a>(
+    pub fn function_result<'r>(
         &self,
         function: usize,
         due: bool,
         ran: Ran,
-        reply: &'a mut [u8],
-    ) -> Outcome<'a> {
+        reply: &'r mut [u8],
+    ) -> Outcome<'static, 'r> {
         let (values, blocks) = (&self.values, &self.blocks);
         let function = FunctionNumber(function);
         cruachvel::function_result(

@@ -2,14 +2,16 @@
 use mathlib.Core.Path.{_≡_, refl, sym, ap, _∙_, subst}
 use mathlib.Core.Bool.{Bool, true, false}
 use mathlib.Core.List.{List, [], _∷_, _++_}
-use Prim.Native.Nat.{ℕ, _+_, _≤_, _<_}
+use Prim.Native.Nat.{ℕ, _+_, _-_, _≤_, _<_}
+use borrow.Rule.Slice.PartMut.{midOf}
 use native.Mathlib.Omega.{arith}
 use lib.ListN.{length, length-append}
-use Rattle.bsmp.specs.Base.{join}
+use Rattle.bsmp.specs.Base.{join, first}
 use Rattle.bsmp.specs.Board.{Table, layout, State, blockSizes, usable}
-use Rattle.bsmp.specs.Packet.{Place, Result, refuse, packet}
+use Rattle.bsmp.specs.Packet.{Place, Result, refuse, placeTests, packetTests, isOwn, destination, message, served, packet}
 use Rattle.bsmp.specs.Store.{Lent, held}
 use Rattle.bsmp.specs.Apart.{arrives}
+use Rattle.bsmp.specs.declared.Refusal.{Refusal}
 use Rattle.bsmp.specs.declared.Refusal.the-variants.{BoardUnusable}
 use Rattle.bsmp.specs.declared.Outcome.{Outcome}
 use Rattle.bsmp.specs.declared.Outcome.the-variants as O
@@ -19,46 +21,75 @@ use Rattle.bsmp.proofs.Store.{join-cut}
 use Rattle.records.specs.Lending.{groupsOf, tableOf, lent}
 use Rattle.records.specs.declared.Records.{Records}
 use Rattle.records.specs.declared.Groups.{Groups}
-use Rattle.records.specs.declared.Board.{Board}
 use Rattle.records.proofs.Lending.{group-count}
-use Rattle.records.proofs.Whole.{board-usable}
 use Rattle.records.proofs.Sound.{groups-most}
-use Rattle.judging.specs.Judging.{lentLayout}
+use Rattle.wire.specs.Opening.{placed, openedOf}
+use Rattle.wire.specs.declared.Opened.{Opened}
+use Rattle.wire.specs.declared.Opened.the-variants.{Message, Refused}
+use Rattle.wire.proofs.Opening.{refused-first, message-first, message-due, message-lent}
+use Rattle.serve.specs.Serve.{typedLayout}
 use Rattle.changes.specs.Changes.{regrouped}
 use Rattle.changes.specs.declared.Regroup.{Regroup}
 use Rattle.changes.specs.declared.Regroup.the-variants.{Keep, Make}
-use Rattle.node.specs.Promise.{tableWith, packetLeft, packetLeftOf, frontOf, Fits, BoardChecked, BoardReady, EndsAs, ReceivedAs, CarriedAs}
+use Rattle.node.specs.Promise.{tableWith, packetLeft, packetLeftOf, unopenedOf, frontOf, Fits, BoardChecked, BoardReady, EndsAs, CarriedAs}
 use Rattle.node.proofs.Receiving.{stopped}
 
 -- any board ----------------------------------------------------------------------------------------------------------------------
-module _ (r : Records) (cs fs : List ℕ) (g : Groups) (vs bs : List ℕ) (a : Place) (busy : ℕ) (p b : List ℕ) (o : Outcome) (q : Regroup) where
+module _ (r : Records) (cs fs : List ℕ) (g : Groups) (vs bs : List ℕ) (own mc busy : ℕ) (p b : List ℕ) (o : Outcome) (q : Regroup) where
   abbrev T : Table
   T = tableOf r cs fs
 
   abbrev X : Lent
   X = lent vs bs (groupsOf g)
 
-  pub carried-unusable : (c : Board) → BoardChecked r cs fs g X c → c .usable ≡ false → o ≡ O.Refused BoardUnusable → q ≡ Keep → CarriedAs T a busy p X b o q b X
+  abbrev A : Place
+  A = placed own mc
+
+  pub carried-unusable : (u : Bool) → BoardChecked r cs fs g X u → u ≡ false → o ≡ O.Refused BoardUnusable → q ≡ Keep → CarriedAs T A busy p X b o q b X
   unfolding packet
-  carried-unusable c checked u e f = record {
-    ends = stopped (layout T) X b _ BoardUnusable o q (faults-some T (held (layout T) X) _ _ _ (sym (board-usable T _ c (checked .board)) ∙ u) refl) e f;
+  carried-unusable u checked v e f = record {
+    ends = stopped (layout T) X b _ BoardUnusable o q (faults-some T (held (layout T) X) _ _ _ (sym (checked .board) ∙ v) refl) e f;
   }
+
+  -- the packet's tests, on a usable board
+  module _ (ready : BoardReady r cs fs g vs bs) (d : Opened) (e : d ≡ openedOf A (length b) p) where
+    abbrev Work : Result
+    Work = served (layout T) busy (isOwn A (destination p)) (message p) (held (layout T) X)
+
+    reached : (z : Result) → z ≡ first (placeTests A (length b)) (refuse (held (layout T) X)) (first (packetTests A p) (refuse (held (layout T) X)) Work)
+        → z ≡ packet T A busy (length b) p (held (layout T) X)
+    unfolding packet
+    reached z h = faults-none T (held (layout T) X) (refuse (held (layout T) X)) _ z (ready .usable-is) h
+
+    pub carried-unopened : (n : Refusal) → d ≡ Refused n → o ≡ unopenedOf d → q ≡ Keep → CarriedAs T A busy p X b o q b X
+    carried-unopened n h f k = record {
+      ends =
+          stopped (layout T) X b _ n o q
+          (reached _ (refused-first A (length b) p d e (refuse (held (layout T) X)) _ (refuse (held (layout T) X) n) n h refl)) (f ∙ ap unopenedOf h) k;
+    }
+
+    pub carried-served : (due : Bool) (b′ : List ℕ) (y : Lent) → d ≡ Message due
+        → EndsAs (served (layout T) busy due (message p) (held (layout T) X)) (layout T) b o q b′ y → CarriedAs T A busy p X b o q b′ y
+    carried-served due b′ y h k = record {
+      ends =
+          subst (λ z. EndsAs z (layout T) b o q b′ y)
+          (reached _
+          (message-first A (length b) p d e (refuse (held (layout T) X)) Work _ due h
+          (ap (λ t. served (layout T) busy t (message p) (held (layout T) X)) (message-due A (length b) p d e due h)))) k;
+    }
 
   abbrev made : List ℕ
   made = frontOf (g .count) (g .sets)
 
   -- what was lent by its fronts is what the definition has
-  pub carried-received : (c : Board) (b′ vs′ bs′ : List ℕ) → BoardReady r cs fs g vs bs c
-      → ReceivedAs (lentLayout (frontOf (r .count) (r .sizes)) (c .writable) cs fs) a busy p (lent vs bs made) b o q b′ (lent vs′ bs′ made)
-      → CarriedAs T a busy p X b o q b′ (lent vs′ bs′ (groupsOf g))
-  unfolding packet
-  carried-received c b′ vs′ bs′ ready h =
-      let z : ReceivedAs (layout T) a busy p X b o q b′ (lent vs′ bs′ (groupsOf g)) =
-      subst (λ gs. ReceivedAs (layout T) a busy p (lent vs bs gs) b o q b′ (lent vs′ bs′ gs)) (ready .groups-are)
-      (subst (λ l. ReceivedAs l a busy p (lent vs bs made) b o q b′ (lent vs′ bs′ made)) (ready .layout-is) h) in
-      record {
-        ends = subst (λ w. EndsAs w (layout T) b o q b′ (lent vs′ bs′ (groupsOf g))) (faults-none T (held (layout T) X) (refuse (held (layout T) X)) _ _ (ready .usable-is) refl) (z .ends);
-      }
+  pub lent-ends : (due : Bool) (b′ vs′ bs′ : List ℕ) → BoardReady r cs fs g vs bs
+      → (let l = typedLayout (frontOf (r .count) (r .sizes)) (frontOf (r .count) (r .writable)) cs fs in
+      EndsAs (served l busy due (midOf 1 (length p - 1 - 1) p) (held l (lent vs bs made))) l b o q b′ (lent vs′ bs′ made))
+      → EndsAs (served (layout T) busy due (message p) (held (layout T) X)) (layout T) b o q b′ (lent vs′ bs′ (groupsOf g))
+  lent-ends due b′ vs′ bs′ ready h =
+      subst (λ m. EndsAs (served (layout T) busy due m (held (layout T) X)) (layout T) b o q b′ (lent vs′ bs′ (groupsOf g))) (message-lent p)
+      (subst (λ gs. EndsAs (served (layout T) busy due (midOf 1 (length p - 1 - 1) p) (held (layout T) (lent vs bs gs))) (layout T) b o q b′ (lent vs′ bs′ gs)) (ready .groups-are)
+      (subst (λ l. EndsAs (served l busy due (midOf 1 (length p - 1 - 1) p) (held l (lent vs bs made))) l b o q b′ (lent vs′ bs′ made)) (ready .layout-is) h))
 
 -- .. and the group table that it leaves -----------------------------------------------------------------------------------------
 module _ (t : Table) (a : Place) (busy : ℕ) (p vs bs : List ℕ) (g : Groups) (b : List ℕ) (o : Outcome) (r : Regroup) (b′ vs′ bs′ : List ℕ)

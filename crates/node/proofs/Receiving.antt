@@ -1,30 +1,22 @@
--- A packet on a usable board: its refusals, and what is said to its message, closed. Assumes nothing.
-use mathlib.Core.Path.{_≡_, refl, sym, ap, ap₂, _∙_, subst}
-use mathlib.Core.Bool.{Bool, true, false, not}
+-- What is said to a packet's message, closed, and what a refusal leaves. Assumes nothing.
+use mathlib.Core.Path.{_≡_, refl, sym, ap, _∙_, subst}
+use mathlib.Core.Bool.{Bool, true, false}
 use mathlib.Core.List.{List}
-use Prim.Native.Nat.{ℕ, _+_, _-_, _≤_, _<_}
+use Prim.Native.Nat.{ℕ, _+_, _-_, _≤_}
 use native.Mathlib.Omega.{arith}
-use borrow.Rule.Slice.PartMut.{midOf}
-use borrow.Author.Tests.{le-ltb, lt-ltb}
 use lib.ListN.{length}
-use Rattle.bsmp.specs.Base.{first}
 use Rattle.bsmp.specs.Board.{Layout}
 use Rattle.bsmp.specs.Message.{Said, replies, runs, handled}
-use Rattle.bsmp.specs.Packet.{Result, refuse, usablePlace, packetTests, isOwn, destination, message, frame, ends, served}
+use Rattle.bsmp.specs.Packet.{Result, refuse, message, frame, ends, served}
 use Rattle.bsmp.specs.Store.{Lent, held, outcomeOf, shown}
 use Rattle.bsmp.specs.declared.FunctionNumber.{FunctionNumber}
 use Rattle.bsmp.specs.declared.Refusal.{Refusal}
-use Rattle.bsmp.specs.declared.Refusal.the-variants.{BadAddress, ReplyBufferShort}
 use Rattle.bsmp.specs.declared.Outcome.{Outcome}
 use Rattle.bsmp.specs.declared.Outcome.the-variants as O
-use Rattle.bsmp.proofs.Chain.{first-next, first-stop, first-end}
 use Rattle.lists.specs.Put.{put, part}
 use Rattle.lists.proofs.Put.{put-nil}
-use Rattle.wire.specs.Opening.{placed, openedOf}
-use Rattle.wire.specs.declared.Opened.{Opened}
-use Rattle.wire.specs.declared.Opened.the-variants.{Message, Refused}
+use Rattle.wire.specs.declared.Opened.the-variants.{Refused}
 use Rattle.wire.proofs.Frame.{frame-shown, frame-outcome}
-use Rattle.wire.proofs.Opening.{refused-first, message-first, message-due, message-lent}
 use Rattle.changes.specs.declared.Regroup.{Regroup}
 use Rattle.changes.specs.declared.Regroup.the-variants.{Keep}
 use Rattle.changes.proofs.Changes.{all-kept}
@@ -32,7 +24,7 @@ use Rattle.answers.specs.Answers.{Spoke}
 use Rattle.answers.specs.declared.Spoken.{Spoken}
 use Rattle.answers.specs.declared.Spoken.the-variants.{Reply, Run, Nothing}
 use Rattle.serve.specs.Serve.{ServedAs}
-use Rattle.node.specs.Promise.{unopenedOf, endOf, closedIn, Closed, Closable, receivedOf, EndsAs, ReceivedAs}
+use Rattle.node.specs.Promise.{endOf, closedIn, Closed, Closable, EndsAs}
 
 -- what is said, closed ---------------------------------------------------------------------------------------------------
 module _ (due : Bool) (s : Spoken) (b : List ℕ) where
@@ -89,50 +81,3 @@ pub stopped : (l : Layout) (x : Lent) (b : List ℕ) (z : Result) (n : Refusal) 
     → refuse (held l x) n ≡ z → o ≡ O.Refused n → g ≡ Keep → EndsAs z l b o g b x
 stopped l x b z n o g q e f =
     subst (λ u. EndsAs u l b o g b x) q (record { outcome = e; reply = refl; leaves = rw f (all-kept l x) })
-
--- a packet on a usable board ---------------------------------------------------------------------------------------------
-module _ (l : Layout) (own mc busy : ℕ) (p : List ℕ) (x : Lent) (b : List ℕ) (u : Bool) (pl : u ≡ usablePlace (placed own mc)) where
-  abbrev Received : Result
-  Received = receivedOf l (placed own mc) busy (length b) p (held l x)
-
-  abbrev Receives : Outcome → Regroup → List ℕ → Lent → Type 0
-  Receives = ReceivedAs l (placed own mc) busy p x b
-
-  pub receive-place : (o : Outcome) (g : Regroup) → not u ≡ true → o ≡ O.Refused BadAddress → g ≡ Keep → Receives o g b x
-  receive-place o g v e f = record {
-    ends = stopped l x b Received BadAddress o g (first-stop _ _ _ _ _ _ _ (ap not (sym pl) ∙ v) refl) e f;
-  }
-
-  module _ (v : not u ≡ false) where
-    pub receive-short : (o : Outcome) (g : Regroup) → length b < 4104 → o ≡ O.Refused ReplyBufferShort → g ≡ Keep → Receives o g b x
-    receive-short o g n e f = record {
-      ends =
-          stopped l x b Received ReplyBufferShort o g
-          (first-next _ _ _ _ _ _ _ (ap not (sym pl) ∙ v) (first-stop _ _ _ _ _ _ _ (lt-ltb _ _ n) refl)) e f;
-    }
-
-    module _ (room : 4104 ≤ length b) (d : Opened) (e : d ≡ openedOf (placed own mc) p) where
-      -- the packet's own tests are left
-      abbrev Work : Result
-      Work = served l busy (isOwn (placed own mc) (destination p)) (message p) (held l x)
-
-      opening : (z : Result) → z ≡ first (packetTests (placed own mc) p) (refuse (held l x)) Work → z ≡ Received
-      opening z q =
-          first-next _ _ _ _ _ _ _ (ap not (sym pl) ∙ v) (first-next _ _ _ _ _ _ _ (le-ltb _ _ room) (first-end _ _ _ q))
-
-      pub receive-refused : (o : Outcome) (n : Refusal) → d ≡ Refused n → o ≡ unopenedOf d → Receives o Keep b x
-      receive-refused o n q f = record {
-        ends =
-            stopped l x b Received n o Keep
-            (opening _ (refused-first own mc p (refuse (held l x)) _ (refuse (held l x) n) d n e q refl)) (f ∙ ap unopenedOf q) refl;
-      }
-
-      pub receive-answered : (due : Bool) (o : Outcome) (g : Regroup) (b₂ : List ℕ) (y : Lent) → d ≡ Message due
-          → EndsAs (served l busy due (midOf 1 (length p - 1 - 1) p) (held l x)) l b o g b₂ y → Receives o g b₂ y
-      receive-answered due o g b₂ y q r = record {
-        ends =
-            subst (λ z. EndsAs z l b o g b₂ y)
-            (opening _
-            (message-first own mc p (refuse (held l x)) _ _ d due e q
-            (ap₂ (λ t n. served l busy t n (held l x)) (message-due own mc p d due e q) (message-lent p)))) r;
-      }

@@ -1,26 +1,28 @@
 -- The group table after a call, and what a usable board's lent parts are. Assumes nothing.
-use mathlib.Core.Path.{_≡_, sym, ap, ap₂, _∙_}
-use mathlib.Core.Bool.{true}
-use mathlib.Core.List.{List, [], _∷_, _++_, append-assoc}
+use mathlib.Core.Path.{_≡_, refl, sym, ap, ap₂, _∙_}
+use mathlib.Core.Bool.{Bool, true}
+use mathlib.Core.List.{List, [], _∷_, _++_, map, append-assoc}
 use Prim.Native.Nat.{ℕ, _+_, _-_, _≤_, _<_}
 use native.Mathlib.Omega.{arith}
 use native.Mathlib.Decide.{decLt}
 use lib.ListN.{length, take, drop, getD, set, length-append, length-take, length-drop, length-set, List·getD-append}
 use lib.Seq.{take-all, getD-take, getD-drop, getD-append-add, ext-getD}
-use Rattle.bsmp.specs.Base.{sum}
-use Rattle.bsmp.specs.Board.{Table, layout, sizesOf, usable}
+use Rattle.bsmp.specs.Base.{sum, every}
+use Rattle.bsmp.specs.Board.{Table, layout, isType, sizesOf, usableVariable, usable}
 use Rattle.bsmp.specs.Store.{held}
+use Rattle.bsmp.specs.declared.Variable.{Variable}
+use Rattle.bsmp.proofs.Bools.{and-true}
 use Rattle.lists.specs.Put.{put}
 use Rattle.lists.proofs.Put.{set-put}
-use Rattle.records.specs.Lending.{recordsOf, groupsOf, tableOf, lent}
+use Rattle.records.specs.Lending.{recordsBy, recordsOf, groupsOf, tableOf, lent}
 use Rattle.records.specs.declared.Records.{Records}
 use Rattle.records.specs.declared.Groups.{Groups}
-use Rattle.records.proofs.Lending.{record-count, sizes-lent, group-count, group-at, groups-lent}
-use Rattle.records.specs.declared.Board.{Board}
-use Rattle.records.proofs.Whole.{layout-lent, board-usable, board-writable}
+use Rattle.records.proofs.Lending.{record-count, sizes-lent, types-lent, group-count, group-at, groups-lent}
+use Rattle.records.proofs.Whole.{layout-lent}
 use Rattle.records.proofs.Sound as R
 use Rattle.variables.proofs.Listing.{sizes-usable}
-use Rattle.judging.specs.Judging.{lentLayout, SoundBoard}
+use Rattle.judging.specs.Judging.{SoundBoard}
+use Rattle.serve.specs.Serve.{typedLayout, SoundTypes}
 use Rattle.changes.specs.Changes.{regrouped}
 use Rattle.changes.specs.declared.Regroup.{Regroup}
 use Rattle.changes.specs.declared.Regroup.the-variants.{Keep, Make, Remove}
@@ -93,57 +95,83 @@ module _ (r : Regroup) (g : Groups) (five : length (g .sets) ≡ 5) where
     regroup-remove e p q = rw e (table-without g x five (p, q))
 
 -- a usable board ---------------------------------------------------------------------------------------------------------------
-module _ (r : Records) (cs fs : List ℕ) (g : Groups) (vs bs : List ℕ) (c : Board)
-    (checked : BoardChecked r cs fs g (lent vs bs (groupsOf g)) c) (u : c .usable ≡ true) (whole : length (r .sizes) ≡ 64) where
+types-pass : (vs : List Variable) → every usableVariable vs ≡ true → every isType (map (λ v. v .writable) vs) ≡ true
+types-pass [] h = refl
+types-pass (v ∷ vs) h =
+    let w = and-true (usableVariable v) (every usableVariable vs) h in
+    let t : isType (v .writable) ≡ true = and-true _ _ (and-true _ _ (w .0) .0) .0 in
+    rw (t, types-pass vs (w .1))
+
+module _ (count : ℕ) (ws ss ks cs fs : List ℕ) (g : Groups) (vs bs : List ℕ) (u : Bool) where
+  abbrev r : Records
+  r = recordsBy count ws ss ks
+
   abbrev T : Table
   T = tableOf r cs fs
 
-  is-usable : usable T (held (layout T) (lent vs bs (groupsOf g))) ≡ true
-  is-usable = sym (board-usable T _ c (checked .board)) ∙ u
+  module _ (checked : BoardChecked r cs fs g (lent vs bs (groupsOf g)) u) (v : u ≡ true) (types : length ws ≡ 64) (sizes : length ss ≡ 64) where
+    is-usable : usable T (held (layout T) (lent vs bs (groupsOf g))) ≡ true
+    is-usable = sym (checked .board) ∙ v
 
-  sound : R.Sound T (lent vs bs (groupsOf g))
-  sound = R.usable-sound T (lent vs bs (groupsOf g)) is-usable
+    sound : R.Sound T (lent vs bs (groupsOf g))
+    sound = R.usable-sound T (lent vs bs (groupsOf g)) is-usable
 
-  few-records : r .count ≤ 64
-  few-records = omega (arith, record-count r, R.variables-most (recordsOf r) (sound .variables))
+    few-records : r .count ≤ 64
+    few-records = omega (arith, record-count r, R.variables-most (recordsOf r) (sound .variables))
 
-  few-groups : g .count ≤ 5
-  few-groups = omega (arith, group-count g, R.groups-most (length (recordsOf r)) (groupsOf g) (sound .groups))
+    few-groups : g .count ≤ 5
+    few-groups = omega (arith, group-count g, R.groups-most (length (recordsOf r)) (groupsOf g) (sound .groups))
 
-  front : (n : ℕ) (xs : List ℕ) → frontOf n xs ≡ take n xs
-  front n xs = let e : n - 0 ≡ n = omega arith in ap (λ k. take k xs) e
+    front : (n : ℕ) (xs : List ℕ) → frontOf n xs ≡ take n xs
+    front n xs = let e : n - 0 ≡ n = omega arith in ap (λ k. take k xs) e
 
-  sizes-are : sizesOf (recordsOf r) ≡ frontOf (r .count) (r .sizes)
-  sizes-are = sizes-lent r (omega (arith, few-records, whole)) ∙ sym (front (r .count) (r .sizes))
+    within-sizes : r .count ≤ length (r .sizes)
+    within-sizes = omega (arith, few-records, sizes)
 
-  groups-same : frontOf (g .count) (g .sets) ≡ groupsOf g
-  groups-same = front (g .count) (g .sets) ∙ sym (groups-lent g (omega (arith, few-groups, checked .sets)))
+    within-types : r .count ≤ length (r .writable)
+    within-types = omega (arith, few-records, types)
 
-  sound-board : SoundBoard (lentLayout (frontOf (r .count) (r .sizes)) (c .writable) cs fs) (lent vs bs (frontOf (g .count) (g .sets)))
-  sound-board = rw groups-same (record {
-    variables = record {
-      few = rw (← sizes-are, sizes-count) few-records;
-      exact = ap sum (sym sizes-are) ∙ sym (sound .values);
-      small = rw (sound .values) (R.variables-small (recordsOf r) (sound .variables));
-    };
-    sizes = rw (← sizes-are) (sizes-usable (recordsOf r) (sound .variables));
-    curves = record { usable = sound .curves; exact = sound .blocks };
-    functions = sound .functions;
-    groups = R.groups-most (length (recordsOf r)) (groupsOf g) (sound .groups);
-  })
-    where
-      sizes-count : length (sizesOf (recordsOf r)) ≡ r .count
-      sizes-count = ap length sizes-are ∙ ap length (front (r .count) (r .sizes)) ∙ simp length-take (omega (arith, few-records, whole))
+    sizes-are : sizesOf (recordsOf r) ≡ frontOf (r .count) (r .sizes)
+    sizes-are = sizes-lent r within-sizes ∙ sym (front (r .count) (r .sizes))
 
-  -- all that the work of a packet leans on
-  pub board-ready : BoardReady r cs fs g vs bs c
-  board-ready = record {
-    usable-is = is-usable;
-    sizes-inside = omega (arith, few-records, whole);
-    sets-inside = omega (arith, few-groups, checked .sets);
-    layout-is =
-        ap (λ ns. lentLayout ns (c .writable) cs fs) (front (r .count) (r .sizes))
-        ∙ layout-lent r cs fs (c .writable) (omega (arith, few-records, whole)) (board-writable T _ c (checked .board) u);
-    groups-are = groups-same;
-    sound = sound-board;
-  }
+    types-are : map (λ v. v .writable) (recordsOf r) ≡ frontOf (r .count) (r .writable)
+    types-are = types-lent r within-types ∙ sym (front (r .count) (r .writable))
+
+    groups-same : frontOf (g .count) (g .sets) ≡ groupsOf g
+    groups-same = front (g .count) (g .sets) ∙ sym (groups-lent g (omega (arith, few-groups, checked .sets)))
+
+    sound-board : SoundBoard (typedLayout (frontOf (r .count) (r .sizes)) (frontOf (r .count) (r .writable)) cs fs) (lent vs bs (frontOf (g .count) (g .sets)))
+    sound-board = rw groups-same (record {
+      variables = record {
+        few = rw (← sizes-are, sizes-count) few-records;
+        exact = ap sum (sym sizes-are) ∙ sym (sound .values);
+        small = rw (sound .values) (R.variables-small (recordsOf r) (sound .variables));
+      };
+      sizes = rw (← sizes-are) (sizes-usable (recordsOf r) (sound .variables));
+      curves = record { usable = sound .curves; exact = sound .blocks };
+      functions = sound .functions;
+      groups = R.groups-most (length (recordsOf r)) (groupsOf g) (sound .groups);
+    })
+      where
+        sizes-count : length (sizesOf (recordsOf r)) ≡ r .count
+        sizes-count = ap length sizes-are ∙ ap length (front (r .count) (r .sizes)) ∙ simp length-take (omega (arith, within-sizes))
+
+    types-sound : SoundTypes (frontOf (r .count) (r .writable))
+    types-sound = record {
+      few = rw (front (r .count) (r .writable), length-take) (omega (arith, few-records));
+      each = rw (← types-are) (types-pass (recordsOf r) (R.variables-each (recordsOf r) (sound .variables)));
+    }
+
+    -- all that the work of a packet leans on
+    pub board-ready : BoardReady r cs fs g vs bs
+    board-ready = record {
+      usable-is = is-usable;
+      sizes-inside = within-sizes;
+      types-inside = within-types;
+      sets-inside = omega (arith, few-groups, checked .sets);
+      layout-is =
+          ap₂ (λ ns ws. typedLayout ns ws cs fs) (front (r .count) (r .sizes)) (front (r .count) (r .writable)) ∙ layout-lent r cs fs within-sizes within-types;
+      groups-are = groups-same;
+      sound = sound-board;
+      sound-types = types-sound;
+    }

@@ -5,9 +5,9 @@ use mathlib.Core.List.{List, _++_}
 use Prim.Native.Nat.{ℕ, _+_, _-_, _≤_, _<_}
 use borrow.Rule.Slice.PartMut.{midOf}
 use lib.ListN.{length, take, drop}
-use Rattle.bsmp.specs.Base.{join, first}
-use Rattle.bsmp.specs.Board.{Table, Layout, layout, State, usable}
-use Rattle.bsmp.specs.Packet.{Place, Result, refuse, placeTests, packetTests, isOwn, destination, message, frame, served, packet}
+use Rattle.bsmp.specs.Base.{join}
+use Rattle.bsmp.specs.Board.{Table, Layout, layout, usable}
+use Rattle.bsmp.specs.Packet.{Place, Result, frame, packet}
 use Rattle.bsmp.specs.Store.{Lent, held, outcomeOf, shown}
 use Rattle.bsmp.specs.declared.Outcome.{Outcome}
 use Rattle.bsmp.specs.declared.Outcome.the-variants as O
@@ -15,16 +15,15 @@ use Rattle.lists.specs.Put.{put, part}
 use Rattle.wire.specs.declared.Opened.{Opened}
 use Rattle.wire.specs.declared.Opened.the-variants.{Message, Refused}
 use Rattle.records.specs.Lending.{groupsOf, tableOf, lent}
-use Rattle.records.specs.Checks.{boardOf}
 use Rattle.records.specs.declared.Records.{Records}
 use Rattle.records.specs.declared.Groups.{Groups}
-use Rattle.records.specs.declared.Board.{Board}
-use Rattle.judging.specs.Judging.{lentLayout, SoundBoard}
+use Rattle.judging.specs.Judging.{SoundBoard}
 use Rattle.changes.specs.Changes.{LeftAs}
 use Rattle.changes.specs.declared.Regroup.{Regroup}
 use Rattle.changes.specs.declared.Regroup.the-variants.{Make}
 use Rattle.answers.specs.declared.Spoken.{Spoken}
 use Rattle.answers.specs.declared.Spoken.the-variants.{Reply, Run, Nothing}
+use Rattle.serve.specs.Serve.{typedLayout, SoundTypes}
 use Rattle.node.specs.declared.Done.{Done}
 
 -- the group table that holds these made groups in its first places; the others are as they were
@@ -83,22 +82,11 @@ pub record Closable (s : Spoken) (b : List ℕ) : Type 0 where
 pub record Fits (r : Regroup) (g : Groups) : Type 0 where
   pub room : (m : ℕ) → r ≡ Make m → g .count < 5
 
--- a packet on a usable board
-abbrev pub receivedOf : Layout → Place → (busy room : ℕ) → (request : List ℕ) → State → Result
-receivedOf l a busy room p s =
-    first (placeTests a room) (refuse s)
-    (first (packetTests a p) (refuse s)
-    (served l busy (isOwn a (destination p)) (message p) s))
-
 -- what the work leaves before the table is regrouped: y, and g becomes of the made groups
 pub record EndsAs (z : Result) (l : Layout) (b : List ℕ) (o : Outcome) (g : Regroup) (b′ : List ℕ) (y : Lent) : Type 0 where
   pub outcome : o ≡ outcomeOf (z .ending)
   pub reply : b′ ≡ shown (z .ending) b
   pub leaves : LeftAs l (z .state) g y
-
-pub record ReceivedAs (l : Layout) (a : Place) (busy : ℕ) (p : List ℕ) (x : Lent) (b : List ℕ)
-    (o : Outcome) (g : Regroup) (b′ : List ℕ) (y : Lent) : Type 0 where
-  pub ends : EndsAs (receivedOf l a busy (length b) p (held l x)) l b o g b′ y
 
 pub record CarriedAs (t : Table) (a : Place) (busy : ℕ) (p : List ℕ) (x : Lent) (b : List ℕ)
     (o : Outcome) (g : Regroup) (b′ : List ℕ) (y : Lent) : Type 0 where
@@ -108,16 +96,18 @@ pub record CarriedAs (t : Table) (a : Place) (busy : ℕ) (p : List ℕ) (x : Le
 abbrev pub frontOf : ℕ → List ℕ → List ℕ
 frontOf n xs = midOf 0 (n - 0) xs
 
--- refusal 1, as c has it, and how long the array is that a group table's places stand in
-pub record BoardChecked (r : Records) (cs fs : List ℕ) (g : Groups) (x : Lent) (c : Board) : Type 0 where
-  pub board : c ≡ boardOf (tableOf r cs fs) x
+-- refusal 1, as u has it, and how long the array is that a group table's places stand in
+pub record BoardChecked (r : Records) (cs fs : List ℕ) (g : Groups) (x : Lent) (u : Bool) : Type 0 where
+  pub board : u ≡ usable (tableOf r cs fs) (held (layout (tableOf r cs fs)) x)
   pub sets : length (g .sets) ≡ 5
 
 -- a usable board, whose columns and places can be lent by their fronts
-pub record BoardReady (r : Records) (cs fs : List ℕ) (g : Groups) (vs bs : List ℕ) (c : Board) : Type 0 where
+pub record BoardReady (r : Records) (cs fs : List ℕ) (g : Groups) (vs bs : List ℕ) : Type 0 where
   pub usable-is : usable (tableOf r cs fs) (held (layout (tableOf r cs fs)) (lent vs bs (groupsOf g))) ≡ true
   pub sizes-inside : r .count ≤ length (r .sizes)
+  pub types-inside : r .count ≤ length (r .writable)
   pub sets-inside : g .count ≤ length (g .sets)
-  pub layout-is : lentLayout (frontOf (r .count) (r .sizes)) (c .writable) cs fs ≡ layout (tableOf r cs fs)
+  pub layout-is : typedLayout (frontOf (r .count) (r .sizes)) (frontOf (r .count) (r .writable)) cs fs ≡ layout (tableOf r cs fs)
   pub groups-are : frontOf (g .count) (g .sets) ≡ groupsOf g
-  pub sound : SoundBoard (lentLayout (frontOf (r .count) (r .sizes)) (c .writable) cs fs) (lent vs bs (frontOf (g .count) (g .sets)))
+  pub sound : SoundBoard (typedLayout (frontOf (r .count) (r .sizes)) (frontOf (r .count) (r .writable)) cs fs) (lent vs bs (frontOf (g .count) (g .sets)))
+  pub sound-types : SoundTypes (frontOf (r .count) (r .writable))

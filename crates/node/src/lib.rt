@@ -3,23 +3,23 @@ use answers::Spoken;
 use bsmp::Outcome;
 use bsmp::Refusal;
 use changes::Regroup;
-use records::Board;
 use records::Groups;
 use wire::Opened;
 ghost use mathlib.Core.Path.{_≡_};
 ghost use Prim.Native.Nat.{_≤_};
 ghost use lib.ListN.{length};
 ghost use Rattle.bsmp.specs.Board.{layout};
-ghost use Rattle.bsmp.specs.Packet.{served, packet};
+ghost use Rattle.bsmp.specs.Packet.{message, served, packet};
 ghost use Rattle.bsmp.specs.Store.{held};
 ghost use Rattle.bsmp.specs.declared.Outcome.the-variants as O;
 ghost use Rattle.records.specs.Lending.{recordsBy, groupsOf, tableOf, lent};
-ghost use Rattle.judging.specs.Judging.{lentLayout, SoundBoard};
+ghost use Rattle.judging.specs.Judging.{SoundBoard};
+ghost use Rattle.serve.specs.Serve.{typedLayout, SoundTypes};
 ghost use Rattle.changes.specs.Changes.{regrouped};
 ghost use Rattle.changes.specs.declared.Regroup.the-variants.{Keep};
 ghost use Rattle.wire.specs.Opening.{placed};
 ghost use Rattle.node.specs.Promise.{tableWith, packetLeft, packetLeftOf, unopenedOf};
-ghost use Rattle.node.specs.Promise.{Closable, Closed, EndsAs, Fits, BoardChecked, BoardReady, ReceivedAs, CarriedAs};
+ghost use Rattle.node.specs.Promise.{Closable, Closed, EndsAs, Fits, BoardChecked, BoardReady, CarriedAs};
 
 // How a call ended, and the group table that it leaves.
 pub struct Done {
@@ -85,7 +85,7 @@ fn close(due: bool, said: Spoken, reply: &mut [u8]) -> Outcome
 fn answer(
     due: bool,
     sizes: &[u8],
-    writable: u64,
+    types: &[u8],
     curves: &[u32],
     functions: &[u8],
     groups: &[u64],
@@ -95,9 +95,10 @@ fn answer(
     busy: u64,
     reply: &mut [u8],
 ) -> Received
-    requires { ⌜ SoundBoard (lentLayout (now sizes) writable (now curves) (now functions)) (lent (now values) (now blocks) (now groups)) ⌝ }
+    requires { let l = typedLayout (now sizes) (now types) (now curves) (now functions) in
+        ⌜ SoundBoard l (lent (now values) (now blocks) (now groups)) × SoundTypes (now types) ⌝ }
     requires { ⌜ 4104 ≤ length (now reply) ⌝ }
-    ensures { λ r. let l = lentLayout (now (sizes .entry)) writable (now (curves .entry)) (now (functions .entry)) in
+    ensures { λ r. let l = typedLayout (now (sizes .entry)) (now (types .entry)) (now (curves .entry)) (now (functions .entry)) in
         let x = lent (now (values .entry)) (now (blocks .entry)) (now (groups .entry)) in
         let y = lent (now (values .exit)) (now (blocks .exit)) (now (groups .entry)) in
         let result = served l busy due (now (message .entry)) (held l x) in
@@ -106,7 +107,7 @@ fn answer(
     let served = serve::serve(
         due,
         sizes,
-        writable,
+        types,
         curves,
         functions,
         groups,
@@ -123,13 +124,59 @@ fn answer(
     Received { outcome, regroup }
 }
 
-// A packet on a usable board, over what is lent.
-fn receive(
+// The message of a packet on a usable board, which is lent by the fronts of its columns and places.
+fn lend(
+    due: bool,
+    count: usize,
+    types: &[u8],
     sizes: &[u8],
-    writable: u64,
+    kinds: &[u8; 64],
     curves: &[u32],
     functions: &[u8],
-    groups: &[u64],
+    groups: Groups,
+    busy: u64,
+    values: &mut [u8],
+    blocks: &mut [u8],
+    request: &[u8],
+    reply: &mut [u8],
+) -> Received
+    requires { let records = recordsBy count (now types) (now sizes) (now kinds) in
+        ⌜ BoardReady records (now curves) (now functions) groups (now values) (now blocks) ⌝ }
+    requires { ⌜ (2 ≤ length (now request)) × (4104 ≤ length (now reply)) ⌝ }
+    ensures { λ r. let records = recordsBy count (now (types .entry)) (now (sizes .entry)) (now (kinds .entry)) in
+        let l = layout (tableOf records (now (curves .entry)) (now (functions .entry))) in
+        let x = lent (now (values .entry)) (now (blocks .entry)) (groupsOf groups) in
+        let y = lent (now (values .exit)) (now (blocks .exit)) (groupsOf groups) in
+        let result = served l busy due (message (now (request .entry))) (held l x) in
+        ⌜ EndsAs result l (now (reply .entry)) (r .outcome) (r .regroup) (now (reply .exit)) y ⌝ }
+{
+    let made = groups.count as usize;
+    let sets = groups.sets;
+    let end = request.len() - 1;
+    answer(
+        due,
+        &sizes[0..count],
+        &types[0..count],
+        curves,
+        functions,
+        &sets[0..made],
+        values,
+        blocks,
+        &request[1..end],
+        busy,
+        reply,
+    )
+}
+
+// A packet on a usable board. Two columns come as slices, since no front is lent of an array that was lent.
+fn receive(
+    count: usize,
+    types: &[u8],
+    sizes: &[u8],
+    kinds: &[u8; 64],
+    curves: &[u32],
+    functions: &[u8],
+    groups: Groups,
     own: u8,
     multicast: u8,
     busy: u64,
@@ -138,37 +185,34 @@ fn receive(
     request: &[u8],
     reply: &mut [u8],
 ) -> Received
-    requires { ⌜ SoundBoard (lentLayout (now sizes) writable (now curves) (now functions)) (lent (now values) (now blocks) (now groups)) ⌝ }
-    ensures { λ r. let l = lentLayout (now (sizes .entry)) writable (now (curves .entry)) (now (functions .entry)) in
-        let x = lent (now (values .entry)) (now (blocks .entry)) (now (groups .entry)) in
-        let y = lent (now (values .exit)) (now (blocks .exit)) (now (groups .entry)) in
+    requires { let records = recordsBy count (now types) (now sizes) (now kinds) in
+        ⌜ BoardReady records (now curves) (now functions) groups (now values) (now blocks) ⌝ }
+    ensures { λ r. let records = recordsBy count (now (types .entry)) (now (sizes .entry)) (now (kinds .entry)) in
+        let t = tableOf records (now (curves .entry)) (now (functions .entry)) in
+        let x = lent (now (values .entry)) (now (blocks .entry)) (groupsOf groups) in
+        let y = lent (now (values .exit)) (now (blocks .exit)) (groupsOf groups) in
         let b = now (reply .entry) in
-        ⌜ ReceivedAs l (placed own multicast) busy (now (request .entry)) x b (r .outcome) (r .regroup) (now (reply .exit)) y ⌝ }
+        ⌜ CarriedAs t (placed own multicast) busy (now (request .entry)) x b (r .outcome) (r .regroup) (now (reply .exit)) y ⌝ }
 {
-    if !wire::usable_place(own, multicast) {
-        return refused(Refusal::BadAddress);
-    }
-    if reply.len() < 4104 {
-        return refused(Refusal::ReplyBufferShort);
-    }
-    let o = wire::open(request, own, multicast);
+    let o = wire::open(request, own, multicast, reply.len());
     let Opened::Message { due } = o else {
         let outcome = unopened(o);
         let regroup = Regroup::Keep;
         return Received { outcome, regroup };
     };
-    let end = request.len() - 1;
-    answer(
+    lend(
         due,
+        count,
+        types,
         sizes,
-        writable,
+        kinds,
         curves,
         functions,
         groups,
+        busy,
         values,
         blocks,
-        &request[1..end],
-        busy,
+        request,
         reply,
     )
 }
@@ -184,12 +228,12 @@ fn check_board(
     groups: Groups,
     values: &[u8],
     blocks: &[u8],
-) -> Board
+) -> bool
     ensures { λ r. let records = recordsBy count (now (writable .entry)) (now (sizes .entry)) (now (kinds .entry)) in
         let x = lent (now (values .entry)) (now (blocks .entry)) (groupsOf groups) in
         ⌜ BoardChecked records (now (curves .entry)) (now (functions .entry)) groups x r ⌝ }
 {
-    records::usable_board(
+    records::quick_board(
         count,
         writable,
         sizes,
@@ -199,51 +243,6 @@ fn check_board(
         groups,
         values,
         blocks,
-    )
-}
-
-// A packet on a usable board, lent by the fronts of its columns and places. The sizes come as a slice, since no front is lent of an array that was lent.
-fn lend(
-    count: usize,
-    writable: &[u8; 64],
-    sizes: &[u8],
-    kinds: &[u8; 64],
-    board: Board,
-    curves: &[u32],
-    functions: &[u8],
-    groups: Groups,
-    own: u8,
-    multicast: u8,
-    busy: u64,
-    values: &mut [u8],
-    blocks: &mut [u8],
-    request: &[u8],
-    reply: &mut [u8],
-) -> Received
-    requires { let records = recordsBy count (now writable) (now sizes) (now kinds) in
-        ⌜ BoardReady records (now curves) (now functions) groups (now values) (now blocks) board ⌝ }
-    ensures { λ r. let records = recordsBy count (now (writable .entry)) (now (sizes .entry)) (now (kinds .entry)) in
-        let t = tableOf records (now (curves .entry)) (now (functions .entry)) in
-        let x = lent (now (values .entry)) (now (blocks .entry)) (groupsOf groups) in
-        let y = lent (now (values .exit)) (now (blocks .exit)) (groupsOf groups) in
-        let b = now (reply .entry) in
-        ⌜ CarriedAs t (placed own multicast) busy (now (request .entry)) x b (r .outcome) (r .regroup) (now (reply .exit)) y ⌝ }
-{
-    let made = groups.count as usize;
-    let sets = groups.sets;
-    receive(
-        &sizes[0..count],
-        board.writable,
-        curves,
-        functions,
-        &sets[0..made],
-        own,
-        multicast,
-        busy,
-        values,
-        blocks,
-        request,
-        reply,
     )
 }
 
@@ -271,7 +270,7 @@ fn carry(
         let b = now (reply .entry) in
         ⌜ CarriedAs t (placed own multicast) busy (now (request .entry)) x b (r .outcome) (r .regroup) (now (reply .exit)) y ⌝ }
 {
-    let board = check_board(
+    if check_board(
         count,
         writable,
         sizes,
@@ -281,14 +280,12 @@ fn carry(
         groups,
         values,
         blocks,
-    );
-    if board.usable {
-        return lend(
+    ) {
+        return receive(
             count,
-            writable,
+            &writable[..],
             &sizes[..],
             kinds,
-            board,
             curves,
             functions,
             groups,

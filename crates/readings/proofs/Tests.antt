@@ -21,26 +21,26 @@ use Rattle.bsmp.proofs.Bools.{and-true, all-at}
 use Rattle.bsmp.proofs.Lists.{every-at}
 use Rattle.bsmp.proofs.Chain.{clear, clear-at, first-case}
 use Rattle.records.specs.Lending.{recordsOf}
-use Rattle.records.specs.Checks.{checkedOf}
+use Rattle.records.specs.Checks.{variablesTotal}
 use Rattle.records.specs.declared.Records.{Records}
-use Rattle.records.specs.declared.Checked.{Checked}
+use Rattle.records.specs.declared.Total.{Total}
 use Rattle.records.proofs.Lending.{record-count, record-at}
 use Rattle.records.proofs.Sound.{variables-most}
-use Rattle.records.proofs.Whole.{records-usable}
+use Rattle.records.proofs.Whole.{total-usable}
 use Rattle.numbers.specs.Size.{isSize}
 use Rattle.readings.specs.Answers.{judgedOf}
 use Rattle.readings.specs.declared.Judged.{Judged}
 use Rattle.readings.specs.declared.Judged.the-variants.{Good, Refused}
 
 -- the returns of `judge` --------------------------------------------------------------------------------------------------
-module _ (r : Records) (i : VariableNumber) (s : Bool) (n : ℕ) (c : Checked) (e : c ≡ checkedOf (recordsOf r)) where
+module _ (r : Records) (i : VariableNumber) (s : Bool) (n : ℕ) (c : Total) (e : c ≡ variablesTotal (recordsOf r)) where
   pub judge-unusable : not (c .usable) ≡ true → Refused BoardUnusable ≡ judgedOf (recordsOf r) i s n
   unfolding judgedOf first
-  judge-unusable u = rw (← records-usable (recordsOf r) c e, u)
+  judge-unusable u = rw (← total-usable _ _ c e, u)
 
   module _ (u : not (c .usable) ≡ false) where
     usable : usableVariables (recordsOf r) ≡ true
-    usable = sym (records-usable (recordsOf r) c e) ∙ not-false _ u
+    usable = sym (total-usable _ _ c e) ∙ not-false _ u
 
     pub judge-unknown : r .count ≤ i .0 → Refused NoSuchVariable ≡ judgedOf (recordsOf r) i s n
     unfolding judgedOf first

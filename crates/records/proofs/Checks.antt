@@ -1,27 +1,35 @@
 -- The rules of refusal 1 as the code meets them, one after another. Assumes nothing.
 use mathlib.Core.Path.{_≡_, refl, sym, _∙_}
-use mathlib.Core.Bool.{Bool, true, false, not, _&&_, and-false}
+use mathlib.Core.Bool.{Bool, true, false, not, _&&_, _||_, and-false}
 use mathlib.Core.List.{List, [], _∷_}
 use Prim.Native.Nat.{ℕ, zero, suc, _+_, _*_, _/_, _^_, _≤_, _<_}
 use native.Mathlib.Omega.{arith}
 use native.Mathlib.Nat.{lt-of-lt-of-le, mul-le-mul, one-mul, one-le-pow, pow-le-pow-right, div-eq-of-lt, le-div-iff-mul-le}
 use lib.Dec.{leb, ltb, eqb, lit<}
 use lib.ListN.{length, getD}
-use mir.Syntax.{w64}
+use mir.Syntax.{w32}
 use mir.Val.{Fits}
 use borrow.Author.Tests.{lt-ltb, le-ltb, lt-leb, le-leb, ne-eqb, ltb-true, ltb-false, leb-true, not-false}
-use Rattle.bsmp.specs.Base.{sum, all, every, within}
+use Rattle.bsmp.specs.Base.{sum, all, every, some, within}
 use Rattle.bsmp.specs.Codes.{kindOf}
-use Rattle.bsmp.specs.Board.{isType, fitsKind, sizesOf, writableOf, usableVariable, variableRules, usableVariables, usableCurve, curveRules, usableCurves}
-use Rattle.bsmp.specs.declared.Kind.{Kind}
+use Rattle.bsmp.specs.Board.{isType, fitsKind, sizesOf, usableVariable, variableRules, usableVariables, usableCurve, curveRules, usableCurves}
 use Rattle.bsmp.specs.declared.Variable.{Variable}
 use Rattle.bsmp.specs.declared.Curve.{Curve}
 use Rattle.bsmp.specs.declared.Function.{Function}
 use Rattle.bsmp.proofs.Bools.{and-true}
-use Rattle.records.specs.Checks.{checkedOf, curveBytes, curvesCheckedOf}
+use Rattle.records.specs.Checks.{totalOf, variablesTotal, curveBytes, curvesTotal}
 
-pub fits-case : (n x : ℕ) (k m : Kind) (b : Bool) → k ≡ kindOf x → k ≡ m → b ≡ fitsKind n m → b ≡ fitsKind n (kindOf x)
-fits-case n x k m b e o h = rw (← e, o) h
+-- kind 0 fits every size, 1 to 4 a number's sizes, and no other fits
+pub fits-told : (n k : ℕ) (b : Bool) → b ≡ some (eqb n) (1 ∷ 2 ∷ 4 ∷ 8 ∷ []) → (eqb k 0 || (leb k 4 && b)) ≡ fitsKind n (kindOf k)
+unfolding kindOf
+fits-told n zero b e = refl
+fits-told n (suc zero) b e = e
+fits-told n (suc (suc zero)) b e = e
+fits-told n (suc (suc (suc zero))) b e = e
+fits-told n (suc (suc (suc (suc zero)))) b e = e
+fits-told n (suc (suc (suc (suc (suc k))))) b e =
+    let x : ℕ = suc (suc (suc (suc (suc k)))) in
+    rw (lt-leb x 4 (omega arith), ne-eqb x 0 (λ z. omega (arith, z)), ne-eqb x 1 (λ z. omega (arith, z)), ne-eqb x 2 (λ z. omega (arith, z)), ne-eqb x 3 (λ z. omega (arith, z)), ne-eqb x 4 (λ z. omega (arith, z)))
 
 -- rules joined by &&, one after another; x is what the code answers
 module _ (a b : Bool) where
@@ -67,21 +75,26 @@ module _ (c : Curve) (b : Bool) (e : b ≡ usableCurve c) (h : not b ≡ false) 
   curve-small : c .size * c .blocks ≤ 268435456
   curve-small = let w = curve-rules c (sym e ∙ not-false b h) in mul-le-mul (w .0 .1) (w .1 .1)
 
-  pub curve-fits : Fits w64 (c .size * c .blocks)
+  pub curve-fits : Fits w32 (c .size * c .blocks)
   curve-fits = record { fits = omega (arith, curve-small) }
 
-  pub curve-sum-fits : (s i n : ℕ) → s ≤ 268435456 * i → i < n → n ≤ 8 → Fits w64 (s + c .size * c .blocks)
+  pub curve-sum-fits : (s i n : ℕ) → s ≤ 268435456 * i → i < n → n ≤ 8 → Fits w32 (s + c .size * c .blocks)
   curve-sum-fits s i n k l m = record { fits = omega (arith, curve-small) }
 
   pub curve-sum-small : (s i : ℕ) → s ≤ 268435456 * i → s + c .size * c .blocks ≤ 268435456 * (i + 1)
   curve-sum-small s i k = omega (arith, curve-small)
 
+-- what the checks answer of what is not usable
+pub refused-total : (u : Bool) (n : ℕ) → u ≡ false → record { usable = false; bytes = 0 } ≡ totalOf u n
+unfolding totalOf
+refused-total u n h = rw h
+
+pub taken-total : (u : Bool) (n m : ℕ) → u ≡ true → n ≡ m → record { usable = true; bytes = n } ≡ totalOf u m
+unfolding totalOf
+taken-total u n m h e = rw (h, e)
+
 -- variables
 module _ (vs : List Variable) where
-  pub records-refused : usableVariables vs ≡ false → record { usable = false; total = 0; writable = 0 } ≡ checkedOf vs
-  unfolding checkedOf
-  records-refused h = rw h
-
   pub variables-few : (k : ℕ) → k ≡ length vs → k < 1 → usableVariables vs ≡ false
   unfolding usableVariables
   variables-few k e h = rw (← e, lt-leb 1 k h)
@@ -98,17 +111,13 @@ module _ (vs : List Variable) where
   unfolding usableVariables
   variables-large n e h = all-off (variableRules vs) 2 (rw (← e) (lt-leb n 4096 h))
 
-  pub records-taken : (k n m : ℕ) → k ≡ length vs → 1 ≤ k → k ≤ 64 → every usableVariable vs ≡ true → n ≡ sum (sizesOf vs) → n ≤ 4096 → m ≡ writableOf vs
-      → record { usable = true; total = n; writable = m } ≡ checkedOf vs
-  unfolding checkedOf usableVariables
-  records-taken k n m q a b h e l w = rw (← q, le-leb 1 k a, le-leb k 64 b, h, ← e, le-leb n 4096 l, w)
+  pub variables-taken : (k n : ℕ) → k ≡ length vs → 1 ≤ k → k ≤ 64 → every usableVariable vs ≡ true → n ≡ sum (sizesOf vs) → n ≤ 4096
+      → record { usable = true; bytes = n } ≡ variablesTotal vs
+  unfolding usableVariables
+  variables-taken k n q a b h e l = taken-total (usableVariables vs) n (sum (sizesOf vs)) (rw (← q, le-leb 1 k a, le-leb k 64 b, h, ← e, le-leb n 4096 l)) e
 
 -- curves
 module _ (cs : List Curve) where
-  pub curves-refused : usableCurves cs ≡ false → record { usable = false; total = 0 } ≡ curvesCheckedOf cs
-  unfolding curvesCheckedOf
-  curves-refused h = rw h
-
   pub curves-many : (k : ℕ) → k ≡ length cs → 8 < k → usableCurves cs ≡ false
   unfolding usableCurves
   curves-many k e h = rw (← e, lt-leb k 8 h)
@@ -121,9 +130,9 @@ module _ (cs : List Curve) where
   unfolding usableCurves
   curves-large n e h = all-off (curveRules cs) 2 (rw (← e) (lt-leb n 65536 h))
 
-  pub curves-taken : (k n : ℕ) → k ≡ length cs → k ≤ 8 → every usableCurve cs ≡ true → n ≡ curveBytes cs → n ≤ 65536 → record { usable = true; total = n } ≡ curvesCheckedOf cs
-  unfolding curvesCheckedOf usableCurves
-  curves-taken k n q l h e b = rw (← q, le-leb k 8 l, h, ← e, le-leb n 65536 b)
+  pub curves-taken : (k n : ℕ) → k ≡ length cs → k ≤ 8 → every usableCurve cs ≡ true → n ≡ curveBytes cs → n ≤ 65536 → record { usable = true; bytes = n } ≡ curvesTotal cs
+  unfolding usableCurves
+  curves-taken k n q l h e b = taken-total (usableCurves cs) n (curveBytes cs) (rw (← q, le-leb k 8 l, h, ← e, le-leb n 65536 b)) e
 
 -- functions and groups: at most m of them, and each passes the test f
 module _ {A : Type 0} (f : A → Bool) (xs : List A) (m : ℕ) where

@@ -9,14 +9,14 @@ use lib.Dec.{ltb}
 use lib.ListN.{length, take, drop, set, getD, length-set, List·getD-eq-default}
 use lib.Seq.{drop-cons, take-suc-set}
 use borrow.Author.Tests.{ltb-true, ltb-false}
-use Rattle.bsmp.specs.Base.{upFrom}
-use Rattle.bsmp.specs.Board.{blankCurve, blankFunction, sizesOf}
+use Rattle.bsmp.specs.Base.{upFrom, marksOf}
+use Rattle.bsmp.specs.Board.{isWritable, blankCurve, blankFunction, sizesOf, writableOf}
 use Rattle.bsmp.specs.declared.Variable.{Variable}
 use Rattle.bsmp.specs.declared.Curve.{Curve}
 use Rattle.bsmp.specs.declared.Function.{Function}
 use Rattle.records.specs.declared.Records.{Records}
 use Rattle.records.specs.declared.Groups.{Groups}
-use Rattle.records.specs.Lending.{numbered, recordsBy, recordAt, curveAt, functionAt, recordsOf, curvesOf, functionsOf, groupsOf}
+use Rattle.records.specs.Lending.{numbered, recordsBy, recordAt, writableMarks, curveAt, functionAt, recordsOf, curvesOf, functionsOf, groupsOf}
 use Rattle.records.proofs.Walk.{length-numbered, numbered-at, padded-whole, padded-broken}
 
 -- the first n numbers of a list
@@ -45,6 +45,14 @@ module _ (r : Records) where
   pub sizes-lent : r .count ≤ length (r .sizes) → sizesOf (recordsOf r) ≡ take (r .count) (r .sizes)
   unfolding recordsOf
   sizes-lent h = map-map (λ v. v .size) (recordAt r) (upFrom 0 (r .count)) ∙ take-numbered (r .sizes) (r .count) h
+
+  -- the types likewise, and their marks
+  pub types-lent : r .count ≤ length (r .writable) → map (λ v. v .writable) (recordsOf r) ≡ take (r .count) (r .writable)
+  unfolding recordsOf
+  types-lent h = map-map (λ v. v .writable) (recordAt r) (upFrom 0 (r .count)) ∙ take-numbered (r .writable) (r .count) h
+
+  pub marks-lent : r .count ≤ length (r .writable) → writableOf (recordsOf r) ≡ writableMarks (take (r .count) (r .writable))
+  marks-lent h = ap marksOf (sym (map-map isWritable (λ v. v .writable) (recordsOf r)) ∙ ap (map isWritable) (types-lent h))
 
 pub column-count : (n : ℕ) (ws ss ks : List ℕ) → n ≡ length (recordsOf (recordsBy n ws ss ks))
 column-count n ws ss ks = record-count (recordsBy n ws ss ks)

@@ -3,6 +3,7 @@ pub mod Lending
 pub mod Checks
 pub mod Pairs
 pub mod Thirds
+pub mod Pieces
 pub mod Counting
 pub mod Sound
 pub mod Blocks

@@ -6,8 +6,8 @@ use Prim.Native.Nat.{ℕ, _^_, _≤_, _<_}
 use lib.Dec.{leb}
 use lib.ListN.{length, getD}
 use borrow.Author.Tests.{leb-true, ltb-true}
-use Rattle.bsmp.specs.Base.{sum}
-use Rattle.bsmp.specs.Board.{Table, blankCurve, blankFunction, layout, sizesOf, blockSizes, variableRules, usableVariables, usableCurve, curveRules, usableCurves, usableFunctions, usableGroups, usable}
+use Rattle.bsmp.specs.Base.{sum, every}
+use Rattle.bsmp.specs.Board.{Table, blankCurve, blankFunction, layout, sizesOf, blockSizes, usableVariable, variableRules, usableVariables, usableCurve, curveRules, usableCurves, usableFunctions, usableGroups, usable}
 use Rattle.bsmp.specs.Store.{Lent, held}
 use Rattle.bsmp.specs.declared.Variable.{Variable}
 use Rattle.bsmp.specs.declared.Curve.{Curve}
@@ -53,6 +53,10 @@ module _ (vs : List Variable) (u : usableVariables vs ≡ true) where
   pub variables-most : length vs ≤ 64
   unfolding usableVariables
   variables-most = inside 1 64 (length vs) (all-at (variableRules vs) u 0) .1
+
+  pub variables-each : every usableVariable vs ≡ true
+  unfolding usableVariables
+  variables-each = all-at (variableRules vs) u 1
 
   pub variables-small : sum (sizesOf vs) ≤ 4096
   unfolding usableVariables

@@ -5,14 +5,14 @@ use mathlib.Core.List.{List}
 use Prim.Native.Nat.{ℕ, _+_, _*_, _/_, _%_, _≤_, _<_}
 use native.Mathlib.Omega.{arith}
 use lib.ListN.{length, drop, getD}
-use mir.Syntax.{w64}
+use mir.Syntax.{w32}
 use mir.Val.{Fits}
 use Rattle.bsmp.specs.Base.{every}
 use Rattle.bsmp.specs.Board.{blankCurve, usableCurve, usableCurves}
 use Rattle.bsmp.specs.declared.Curve.{Curve}
 use Rattle.bsmp.proofs.Bools.{not-so}
 use Rattle.records.specs.Lending.{curvesOf}
-use Rattle.records.specs.Checks.{curveBytes, curvesCheckedOf}
+use Rattle.records.specs.Checks.{curveBytes, curvesTotal}
 use Rattle.records.proofs.Walk.{Walked, every-at, walked-start, walked-next, walked-stop, walked-end, sum-next, sum-end}
 use Rattle.records.proofs.Lending.{curve-count, curve-whole, curve-broken}
 use Rattle.records.proofs.Checks.{curves-many, curves-broken, curves-taken, curve-fits, curve-sum-small, curve-sum-fits}
@@ -69,10 +69,10 @@ module _ (ns : List ℕ) where
       small = rw next (curve-sum-small here b e t s (i / 3) (q .small));
     }
 
-    pub stepped-mul : b ≡ usableCurve here → not b ≡ false → Fits w64 (getD ns (i + 1) 0 * getD ns (i + 2) 0)
+    pub stepped-mul : b ≡ usableCurve here → not b ≡ false → Fits w32 (getD ns (i + 1) 0 * getD ns (i + 2) 0)
     stepped-mul e t = curve-fits here b e t
 
-    pub stepped-fits : b ≡ usableCurve here → not b ≡ false → length ns ≤ 24 → Fits w64 (s + getD ns (i + 1) 0 * getD ns (i + 2) 0)
+    pub stepped-fits : b ≡ usableCurve here → not b ≡ false → length ns ≤ 24 → Fits w32 (s + getD ns (i + 1) 0 * getD ns (i + 2) 0)
     stepped-fits e t k = curve-sum-fits here b e t s (i / 3) 8 (q .small) (omega arith) (omega arith)
 
   -- past the last
@@ -83,7 +83,7 @@ module _ (ns : List ℕ) where
     pub stepped-sum : s ≡ curveBytes (curvesOf ns)
     stepped-sum = sum-end (curvesOf ns) ((length ns + 2) / 3) (i / 3) (curve-count ns) past (λ c. c .size * c .blocks) s _ (q .summed)
 
-    pub stepped-end : length ns ≤ 24 → s ≤ 65536 → record { usable = true; total = s } ≡ curvesCheckedOf (curvesOf ns)
+    pub stepped-end : length ns ≤ 24 → s ≤ 65536 → record { usable = true; bytes = s } ≡ curvesTotal (curvesOf ns)
     stepped-end l k =
         curves-taken (curvesOf ns) ((length ns + 2) / 3) s (curve-count ns) (omega arith)
         (walked-end usableCurve (curvesOf ns) ((length ns + 2) / 3) (i / 3) (curve-count ns) past (q .walked))

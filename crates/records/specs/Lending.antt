@@ -4,8 +4,8 @@ use mathlib.Core.List.{List, map}
 use Prim.Native.Nat.{ℕ, _+_, _*_, _/_}
 use lib.Dec.{ltb}
 use lib.ListN.{length, getD}
-use Rattle.bsmp.specs.Base.{upFrom}
-use Rattle.bsmp.specs.Board.{Table, blankCurve}
+use Rattle.bsmp.specs.Base.{upFrom, marksOf}
+use Rattle.bsmp.specs.Board.{Table, isWritable, blankCurve}
 use Rattle.bsmp.specs.Store.{Lent}
 use Rattle.bsmp.specs.declared.Variable.{Variable}
 use Rattle.bsmp.specs.declared.Curve.{Curve}
@@ -26,6 +26,10 @@ recordAt r i = record { writable = getD (r .writable) i 0; size = getD (r .sizes
 
 unfoldable pub recordsOf : Records → List Variable
 recordsOf r = numbered (recordAt r) (r .count)
+
+-- the writable variables as marks, by their types
+abbrev pub writableMarks : List ℕ → ℕ
+writableMarks ws = marksOf (map isWritable ws)
 
 -- three numbers for a curve: type, block size, blocks; one or two left over are one more record, which breaks the rules
 abbrev pub curveAt : List ℕ → ℕ → Curve

@@ -3,19 +3,19 @@ use bsmp::Curve;
 use bsmp::CurveNumber;
 use bsmp::Function;
 use bsmp::FunctionNumber;
-use bsmp::Kind;
 use bsmp::Variable;
 ghost use mathlib.Core.Path.{_≡_};
 ghost use mathlib.Core.Bool.{true, _&&_};
 ghost use mathlib.Core.List.{[], _∷_, _++_};
-ghost use Prim.Native.Nat.{_+_, _^_, _≤_, _<_};
+ghost use Prim.Native.Nat.{_+_, _-_, _%_, _^_, _≤_, _<_};
 ghost use lib.Dec.{eqb, ltb};
 ghost use lib.ListN.{length, take, getD, set};
-ghost use Rattle.bsmp.specs.Base.{some};
+ghost use Rattle.bsmp.specs.Base.{some, every};
 ghost use Rattle.bsmp.specs.Codes.{kindOf};
-ghost use Rattle.bsmp.specs.Board.{blankCurve, blankFunction, fitsKind, usableVariable, usableCurve, usableCurves, usableFunctions, usableGroups};
-ghost use Rattle.records.specs.Lending.{recordsBy, recordsOf, curvesOf, functionsOf, groupsOf, tableOf, lent};
-ghost use Rattle.records.specs.Checks.{checkedOf, curveBytes, curvesCheckedOf, boardOf};
+ghost use Rattle.bsmp.specs.Store.{held};
+ghost use Rattle.bsmp.specs.Board.{isType, blankCurve, blankFunction, fitsKind, usableVariable, usableCurve, usableCurves, usableFunctions, usableGroups, layout, usable};
+ghost use Rattle.records.specs.Lending.{recordsBy, recordsOf, writableMarks, curvesOf, functionsOf, groupsOf, tableOf, lent};
+ghost use Rattle.records.specs.Checks.{variablesTotal, usableFrom, curveBytes, curvesTotal};
 
 // The variable records by columns; of the places from `count` on, nothing counts.
 pub struct Records {
@@ -32,103 +32,55 @@ pub struct Groups {
     pub sets: [u64; 5],
 }
 
-// Of usable records: the bytes of all values, and the writable variables as marks.
-pub struct Checked {
+// Of usable records: the bytes that they add up to, in a number that has 32 bits on every target.
+pub struct Total {
     pub usable: bool,
-    pub total: usize,
-    pub writable: u64,
+    pub bytes: u32,
 }
 
-// Of usable curves: the bytes of all blocks.
-pub struct CurvesChecked {
-    pub usable: bool,
-    pub total: usize,
-}
-
-// Of a usable board: the writable variables as marks.
-pub struct Board {
-    pub usable: bool,
-    pub writable: u64,
-}
-
-impl Checked {
-    pub const REFUSED: Checked = Checked {
+impl Total {
+    pub const REFUSED: Total = Total {
         usable: false,
-        total: 0,
-        writable: 0,
+        bytes: 0,
     };
 }
 
-impl CurvesChecked {
-    pub const REFUSED: CurvesChecked = CurvesChecked {
-        usable: false,
-        total: 0,
-    };
-}
-
-impl Board {
-    pub const REFUSED: Board = Board {
-        usable: false,
-        writable: 0,
-    };
-}
-
+// The rules of a record are tested without branches, so that the compiler can test many records at once.
 fn fits_number(size: u8) -> bool
     ensures { λ r. ⌜ r ≡ some (eqb size) (1 ∷ 2 ∷ 4 ∷ 8 ∷ []) ⌝ }
 {
-    match size {
-        1 => true,
-        2 => true,
-        4 => true,
-        8 => true,
-        _ => false,
-    }
+    (size == 1) | (size == 2) | (size == 4) | (size == 8)
 }
 
 fn fits_kind(size: u8, kind: u8) -> bool
     ensures { λ r. ⌜ r ≡ fitsKind size (kindOf kind) ⌝ }
 {
-    let k = Kind::of(kind);
-    match k {
-        Kind::Plain => true,
-        Kind::Number { signed: _, big: _ } => fits_number(size),
-        Kind::Unknown => false,
-    }
+    (kind == 0) | ((kind <= 4) & fits_number(size))
 }
 
 fn usable_variable(v: Variable) -> bool
     ensures { λ r. ⌜ r ≡ usableVariable v ⌝ }
 {
-    if 1 < v.writable {
-        return false;
-    }
-    if v.size < 1 {
-        return false;
-    }
-    if 127 < v.size {
-        return false;
-    }
-    fits_kind(v.size, v.kind)
+    (v.writable <= 1) & (1 <= v.size) & (v.size <= 127) & fits_kind(v.size, v.kind)
 }
 
-// The rules of the variable records, with what their sizes and types add up to, in one walk. The columns are lent, since a copy of them
-// for each call would be the most of what an entry needs of the stack.
+// The rules of the variable records, with what their sizes add up to, in one walk. The columns are lent, since a copy of them for each call
+// would be the most of what an entry needs of the stack.
 pub fn usable_records(
     count: usize,
     writable: &[u8; 64],
     sizes: &[u8; 64],
     kinds: &[u8; 64],
-) -> Checked
-    ensures { λ r. ⌜ r ≡ checkedOf (recordsOf (recordsBy count (now (writable .entry)) (now (sizes .entry)) (now (kinds .entry)))) ⌝ }
+) -> Total
+    ensures { λ r. ⌜ r ≡ variablesTotal (recordsOf (recordsBy count (now (writable .entry)) (now (sizes .entry)) (now (kinds .entry)))) ⌝ }
 {
     if count < 1 {
-        return Checked::REFUSED;
+        return Total::REFUSED;
     }
     if 64 < count {
-        return Checked::REFUSED;
+        return Total::REFUSED;
     }
-    let mut bytes: usize = 0;
-    let mut marks: u64 = 0;
+    let mut bytes: u32 = 0;
     let mut i = 0;
     while i < count {
         let v = Variable {
@@ -137,20 +89,120 @@ pub fn usable_records(
             kind: kinds[i],
         };
         if !usable_variable(v) {
-            return Checked::REFUSED;
+            return Total::REFUSED;
         }
-        bytes += v.size as usize;
-        marks += (v.writable as u64) << i;
+        bytes += v.size as u32;
         i += 1;
     }
     if 4096 < bytes {
-        return Checked::REFUSED;
+        return Total::REFUSED;
     }
-    Checked {
+    Total {
         usable: true,
-        total: bytes,
-        writable: marks,
+        bytes,
     }
+}
+
+// Whether the 16 records from `from` on break no rule.
+fn usable_piece(writable: &[u8; 64], sizes: &[u8; 64], kinds: &[u8; 64], from: usize) -> bool
+    requires { ⌜ from + 16 ≤ 64 ⌝ }
+    ensures { λ r. ⌜ r ≡ usableFrom (now (writable .entry)) (now (sizes .entry)) (now (kinds .entry)) from 16 ⌝ }
+{
+    let mut usable = true;
+    let mut i: usize = 0;
+    while i < 16 {
+        let at = from + i;
+        let v = Variable {
+            writable: writable[at],
+            size: sizes[at],
+            kind: kinds[at],
+        };
+        usable = usable & usable_variable(v);
+        i += 1;
+    }
+    usable
+}
+
+// Whether so many records break no rule, 16 at a time.
+fn usable_pieces(whole: usize, writable: &[u8; 64], sizes: &[u8; 64], kinds: &[u8; 64]) -> bool
+    requires { ⌜ (whole ≤ 64) × (whole % 16 ≡ 0) ⌝ }
+    ensures { λ r. ⌜ r ≡ usableFrom (now (writable .entry)) (now (sizes .entry)) (now (kinds .entry)) 0 whole ⌝ }
+{
+    let mut i: usize = 0;
+    while i < whole {
+        if !usable_piece(writable, sizes, kinds, i) {
+            return false;
+        }
+        i += 16;
+    }
+    true
+}
+
+// Whether the records from `from` up to the last break no rule, one by one.
+fn usable_rest(
+    from: usize,
+    count: usize,
+    writable: &[u8; 64],
+    sizes: &[u8; 64],
+    kinds: &[u8; 64],
+) -> bool
+    requires { ⌜ (from ≤ count) × (count ≤ 64) ⌝ }
+    ensures { λ r. ⌜ r ≡ usableFrom (now (writable .entry)) (now (sizes .entry)) (now (kinds .entry)) from (count - from) ⌝ }
+{
+    let mut i = from;
+    while i < count {
+        let v = Variable {
+            writable: writable[i],
+            size: sizes[i],
+            kind: kinds[i],
+        };
+        if !usable_variable(v) {
+            return false;
+        }
+        i += 1;
+    }
+    true
+}
+
+// The same as `usable_records`, for packets, which come often: records in pieces, and what is left of them one by one.
+fn quick_records(count: usize, writable: &[u8; 64], sizes: &[u8; 64], kinds: &[u8; 64]) -> Total
+    ensures { λ r. ⌜ r ≡ variablesTotal (recordsOf (recordsBy count (now (writable .entry)) (now (sizes .entry)) (now (kinds .entry)))) ⌝ }
+{
+    if count < 1 {
+        return Total::REFUSED;
+    }
+    if 64 < count {
+        return Total::REFUSED;
+    }
+    let whole = count - count % 16;
+    if !usable_pieces(whole, writable, sizes, kinds) {
+        return Total::REFUSED;
+    }
+    if !usable_rest(whole, count, writable, sizes, kinds) {
+        return Total::REFUSED;
+    }
+    let bytes = lists::offset(sizes, count);
+    if 4096 < bytes {
+        return Total::REFUSED;
+    }
+    Total {
+        usable: true,
+        bytes: bytes as u32,
+    }
+}
+
+// The writable variables as marks, by their types.
+pub fn marks_of(types: &[u8]) -> u64
+    requires { ⌜ (length (now types) ≤ 64) × (every isType (now types) ≡ true) ⌝ }
+    ensures { λ r. ⌜ r ≡ writableMarks (now (types .entry)) ⌝ }
+{
+    let mut marks: u64 = 0;
+    let mut i: usize = 0;
+    while i < types.len() {
+        marks += (types[i] as u64) << i;
+        i += 1;
+    }
+    marks
 }
 
 // How many curve records are lent, a broken one at the end included.
@@ -201,17 +253,17 @@ fn usable_curve(c: Curve) -> bool
 
 // The rules of the curve records, with what their blocks add up to; each is tested before it counts, so that the sum fits. A record that
 // is cut off breaks them.
-pub fn usable_curves(curves: &[u32]) -> CurvesChecked
-    ensures { λ r. ⌜ r ≡ curvesCheckedOf (curvesOf (now (curves .entry))) ⌝ }
+pub fn usable_curves(curves: &[u32]) -> Total
+    ensures { λ r. ⌜ r ≡ curvesTotal (curvesOf (now (curves .entry))) ⌝ }
 {
     let n = curves.len();
     if 24 < n {
-        return CurvesChecked::REFUSED;
+        return Total::REFUSED;
     }
     if n % 3 != 0 {
-        return CurvesChecked::REFUSED;
+        return Total::REFUSED;
     }
-    let mut total: usize = 0;
+    let mut bytes: u32 = 0;
     let mut i = 0;
     while i < n {
         let c = Curve {
@@ -220,17 +272,17 @@ pub fn usable_curves(curves: &[u32]) -> CurvesChecked
             blocks: curves[i + 2],
         };
         if !usable_curve(c) {
-            return CurvesChecked::REFUSED;
+            return Total::REFUSED;
         }
-        total += c.size as usize * c.blocks as usize;
+        bytes += c.size * c.blocks;
         i += 3;
     }
-    if 65536 < total {
-        return CurvesChecked::REFUSED;
+    if 65536 < bytes {
+        return Total::REFUSED;
     }
-    CurvesChecked {
+    Total {
         usable: true,
-        total,
+        bytes,
     }
 }
 
@@ -362,33 +414,63 @@ pub fn usable_board(
     groups: Groups,
     values: &[u8],
     blocks: &[u8],
-) -> Board
+) -> bool
     ensures { λ r. let records = recordsBy count (now (writable .entry)) (now (sizes .entry)) (now (kinds .entry)) in
         let t = tableOf records (now (curves .entry)) (now (functions .entry)) in
-        ⌜ r ≡ boardOf t (lent (now (values .entry)) (now (blocks .entry)) (groupsOf groups)) ⌝ }
+        ⌜ r ≡ usable t (held (layout t) (lent (now (values .entry)) (now (blocks .entry)) (groupsOf groups))) ⌝ }
 {
-    let records_checked = usable_records(count, writable, sizes, kinds);
-    if !records_checked.usable {
-        return Board::REFUSED;
+    let variables_total = usable_records(count, writable, sizes, kinds);
+    if !variables_total.usable {
+        return false;
     }
-    if records_checked.total != values.len() {
-        return Board::REFUSED;
+    if variables_total.bytes as usize != values.len() {
+        return false;
     }
-    let curves_checked = usable_curves(curves);
-    if !curves_checked.usable {
-        return Board::REFUSED;
+    let curves_total = usable_curves(curves);
+    if !curves_total.usable {
+        return false;
     }
-    if curves_checked.total != blocks.len() {
-        return Board::REFUSED;
+    if curves_total.bytes as usize != blocks.len() {
+        return false;
     }
     if !usable_functions(functions) {
-        return Board::REFUSED;
+        return false;
     }
-    if !usable_groups(groups, count) {
-        return Board::REFUSED;
+    usable_groups(groups, count)
+}
+
+// The same as `usable_board`, for packets: it has one caller, since the compiler takes only such a function into the entry whole.
+pub fn quick_board(
+    count: usize,
+    writable: &[u8; 64],
+    sizes: &[u8; 64],
+    kinds: &[u8; 64],
+    curves: &[u32],
+    functions: &[u8],
+    groups: Groups,
+    values: &[u8],
+    blocks: &[u8],
+) -> bool
+    ensures { λ r. let records = recordsBy count (now (writable .entry)) (now (sizes .entry)) (now (kinds .entry)) in
+        let t = tableOf records (now (curves .entry)) (now (functions .entry)) in
+        ⌜ r ≡ usable t (held (layout t) (lent (now (values .entry)) (now (blocks .entry)) (groupsOf groups))) ⌝ }
+{
+    let variables_total = quick_records(count, writable, sizes, kinds);
+    if !variables_total.usable {
+        return false;
     }
-    Board {
-        usable: true,
-        writable: records_checked.writable,
+    if variables_total.bytes as usize != values.len() {
+        return false;
     }
+    let curves_total = usable_curves(curves);
+    if !curves_total.usable {
+        return false;
+    }
+    if curves_total.bytes as usize != blocks.len() {
+        return false;
+    }
+    if !usable_functions(functions) {
+        return false;
+    }
+    usable_groups(groups, count)
 }

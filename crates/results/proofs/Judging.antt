@@ -1,21 +1,18 @@
 -- The tests of a call before any work: their refusal, or the work. Assumes nothing.
 use mathlib.Core.Path.{_≡_, sym, ap, _∙_}
-use mathlib.Core.Bool.{true, false, not}
+use mathlib.Core.Bool.{Bool, true, false, not}
 use mathlib.Core.List.{List}
 use Prim.Native.Nat.{ℕ}
 use native.Mathlib.Omega.{arith}
 use borrow.Author.Tests.{not-true, not-false}
 use Rattle.bsmp.specs.Base.{Test, first}
-use Rattle.bsmp.specs.Board.{Table, layout, State, faults}
+use Rattle.bsmp.specs.Board.{Table, layout, State, usable, faults}
 use Rattle.bsmp.specs.Store.{Lent, held}
 use Rattle.bsmp.specs.declared.Refusal.{Refusal}
 use Rattle.bsmp.specs.declared.Refusal.the-variants.{BoardUnusable}
 use Rattle.bsmp.proofs.Chain.{clear, broken-at, clear-at, first-case}
 use Rattle.bsmp.proofs.Usable.{clear-usable, faults-none, faults-some}
 use Rattle.wire.proofs.Opening.{first-through}
-use Rattle.records.specs.declared.Board.{Board}
-use Rattle.records.specs.Checks.{boardOf}
-use Rattle.records.proofs.Whole.{board-usable}
 use Rattle.records.proofs.Sound.{Sound, usable-sound}
 use Rattle.results.specs.declared.Judged.{Judged}
 use Rattle.results.specs.declared.Judged.the-variants.{Pass, Refuse}
@@ -32,16 +29,16 @@ module _ (t : Table) (x : Lent) where
   s = held (layout t) x
 
   -- refusal 1, as the board's check gives it
-  module _ (c : Board) (e : c ≡ boardOf t x) where
-    pub board-sound : not (c .usable) ≡ false → Sound t x
-    board-sound h = usable-sound t x (sym (board-usable t x c e) ∙ not-false _ h)
+  module _ (c : Bool) (e : c ≡ usable t s) where
+    pub board-sound : not c ≡ false → Sound t x
+    board-sound h = usable-sound t x (sym e ∙ not-false _ h)
 
     module _ {B : Type 0} (f : Refusal → B) (ok y : B) where
-      pub board-refuses : not (c .usable) ≡ true → y ≡ f BoardUnusable → y ≡ first (faults t s) f ok
-      board-refuses h q = faults-some t s f ok y (sym (board-usable t x c e) ∙ not-true _ h) q
+      pub board-refuses : not c ≡ true → y ≡ f BoardUnusable → y ≡ first (faults t s) f ok
+      board-refuses h q = faults-some t s f ok y (sym e ∙ not-true _ h) q
 
-      pub board-passes : not (c .usable) ≡ false → y ≡ ok → y ≡ first (faults t s) f ok
-      board-passes h q = faults-none t s f ok y (sym (board-usable t x c e) ∙ not-false _ h) q
+      pub board-passes : not c ≡ false → y ≡ ok → y ≡ first (faults t s) f ok
+      board-passes h q = faults-none t s f ok y (sym e ∙ not-false _ h) q
 
   -- the board's tests and those of the call, judged
   module _ (ts : List (Test Refusal)) (j : Judged) (h : j ≡ first (faults t s) Refuse (first ts Refuse Pass)) where

@@ -1,6 +1,6 @@
 -- A board store: its tests as code meets them, what a pass lets the store lean on, and what the call leaves. Assumes nothing.
 use mathlib.Core.Path.{_≡_, sym, ap, _∙_}
-use mathlib.Core.Bool.{true, false, not}
+use mathlib.Core.Bool.{Bool, true, false, not}
 use mathlib.Core.List.{List, [], _∷_}
 use Prim.Native.Nat.{ℕ, _≤_, _<_}
 use native.Mathlib.Omega.{arith}
@@ -8,7 +8,7 @@ use lib.Dec.{ltb, eqb}
 use lib.ListN.{length, take, getD, length-map, List·getD-map}
 use borrow.Author.Tests.{lt-ltb, le-ltb, ltb-true, eq-eqb, ne-eqb, eqb-true, not-false}
 use Rattle.bsmp.specs.Base.{Test, first, cut, join}
-use Rattle.bsmp.specs.Board.{Table, layout, State, sizesOf, faults}
+use Rattle.bsmp.specs.Board.{Table, layout, State, sizesOf, usable, faults}
 use Rattle.bsmp.specs.Message.{edited, after}
 use Rattle.bsmp.specs.Packet.{refuse, storeTests, boardStore}
 use Rattle.bsmp.specs.Store.{Lent, held}
@@ -21,9 +21,7 @@ use Rattle.bsmp.proofs.Store.{join-cut}
 use Rattle.sets.specs.Members.{sizeAt}
 use Rattle.sets.specs.Promises as sets
 use Rattle.records.specs.declared.Records.{Records}
-use Rattle.records.specs.declared.Board.{Board}
 use Rattle.records.specs.Lending.{recordsBy, recordsOf, tableOf, lent}
-use Rattle.records.specs.Checks.{boardOf}
 use Rattle.records.proofs.Lending.{noVariable, record-count, record-at, sizes-lent}
 use Rattle.records.proofs.Sound.{Sound, variables-most, variables-small}
 use Rattle.results.specs.Results.{storeLeft, storeLeftOf}
@@ -70,7 +68,7 @@ module _ (m : ℕ) (ws ss ks cs fs vs bs gs : List ℕ) where
   few : Sound t x → m ≤ 64
   few z = rw (record-count r) (variables-most (recordsOf r) (z .variables))
 
-  pub size-inside : (c : Board) (i n : ℕ) → c ≡ boardOf t x → not (c .usable) ≡ false → i < m → n ≡ 64 → i < n
+  pub size-inside : (c : Bool) (i n : ℕ) → c ≡ usable t s → not c ≡ false → i < m → n ≡ 64 → i < n
   size-inside c i n e u h l = omega (arith, few (board-sound t x c e u))
 
   -- the call ---------------------------------------------------------------------------------------------------------------

@@ -61,7 +61,7 @@ fn judge_result(
         let state = held (layout table) (lent (now (values .entry)) (now (blocks .entry)) (groupsOf groups)) in
         ⌜ r ≡ first (faults table state) Refuse (first (resultTests (layout table) room function (ranOf ran (now (output .entry)))) Refuse Pass) ⌝ }
 {
-    let board = records::usable_board(
+    let usable = records::usable_board(
         count,
         writable,
         sizes,
@@ -72,7 +72,7 @@ fn judge_result(
         values,
         blocks,
     );
-    if !board.usable {
+    if !usable {
         return Judged::Refuse(Refusal::BoardUnusable);
     }
     if room < 4104 {
@@ -180,7 +180,7 @@ fn judge_store(
         let state = held (layout table) (lent (now (values .entry)) (now (blocks .entry)) (groupsOf groups)) in
         ⌜ r ≡ first (faults table state) Refuse (first (storeTests (layout table) variable (now (bytes .entry))) Refuse Pass) ⌝ }
 {
-    let board = records::usable_board(
+    let usable = records::usable_board(
         count,
         writable,
         sizes,
@@ -191,7 +191,7 @@ fn judge_store(
         values,
         blocks,
     );
-    if !board.usable {
+    if !usable {
         return Judged::Refuse(Refusal::BoardUnusable);
     }
     let i = variable.0;

@@ -1,3 +1,4 @@
 pub mod Silence
+pub mod Types
 pub mod Serving
 pub mod Unique

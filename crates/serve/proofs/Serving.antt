@@ -6,8 +6,9 @@ use Prim.Native.Nat.{ℕ, _-_, _≤_}
 use borrow.Rule.Slice.PartMut.{midOf}
 use lib.ListN.{length}
 use Rattle.bsmp.specs.Board.{Layout, State, withValues, withBlocks}
-use Rattle.bsmp.specs.Codes.{errorCode}
-use Rattle.bsmp.specs.Message.{Answer, say, tell, show, call, Line, line, asked, Said, spoken, said, stateAfter, carried, handled}
+use Rattle.bsmp.specs.Base.{byteAt}
+use Rattle.bsmp.specs.Codes.{commandOf, errorCode}
+use Rattle.bsmp.specs.Message.{Answer, say, tell, show, call, Line, line, asked, judge, Said, spoken, said, stateAfter, carried, handled}
 use Rattle.bsmp.specs.Store.{Lent, held}
 use Rattle.bsmp.specs.declared.WireError.{WireError}
 use Rattle.bsmp.specs.declared.Command.{Command}
@@ -27,13 +28,13 @@ use Rattle.answers.specs.Answers.{Spoke}
 use Rattle.answers.specs.declared.Spoken.{Spoken}
 use Rattle.answers.specs.declared.Spoken.the-variants.{Reply}
 use Rattle.answers.proofs.Answers.{done-said}
-use Rattle.serve.specs.Serve.{JudgedAs, Judged, CarriedOut, Named, Unanswered, Fulfilled, ServedAs}
+use Rattle.serve.specs.Serve.{Judged, CarriedOut, Named, Unanswered, Fulfilled, ServedAs}
 use Rattle.serve.proofs.Silence.{unheard, run-named}
 
 -- a judgement, and what it says to whom carries the message out or answers it
 module _ (l : Layout) (gs m : List ℕ) (k : Command) (v : Check) where
-  pub judged : (busy : ℕ) → JudgedAs l gs busy m k v → Judged l gs m k v
-  judged busy h = record { command = h .command; judgement = record { marks = busy; judged = h .check } }
+  pub judged : (busy : ℕ) → k ≡ commandOf (byteAt m 0) → v ≡ judge l gs busy m → Judged l gs m k v
+  judged busy e h = record { command = e; judgement = record { marks = busy; judged = h } }
 
   pub judged-whole : Judged l gs m k v → v ≡ Pass → 3 ≤ length m
   judged-whole h e = judged-long l gs m v (h .judgement) e
@@ -104,7 +105,7 @@ pub fulfilled : (due : Bool) (l : Layout) (m : List ℕ) (v : Check) (x : Lent) 
 fulfilled due l m v x r at s g r′ y h w = record { carried = h; spoke = w }
 
 pub served : (due : Bool) (l : Layout) (busy : ℕ) (m : List ℕ) (k : Command) (x : Lent) (r : List ℕ) (at : ℕ) (v : Check) (g : Regroup) (y : Lent) (s : Spoken) (r′ : List ℕ)
-    → JudgedAs l (x .groups) busy m k v → Fulfilled due l m v x r at s g r′ y → ServedAs due l busy m x r at s g r′ y
+    → v ≡ judge l (x .groups) busy m → Fulfilled due l m v x r at s g r′ y → ServedAs due l busy m x r at s g r′ y
 unfolding handled carried
 served due l busy m k x r at v g y s r′ q f =
     let h : LeftAs l (stateAfter (asked l (x .groups) m) v (held l x)) g y = f .carried .leaves in
@@ -113,6 +114,6 @@ served due l busy m k x r at v g y s r′ q f =
     said-alike (asked l (x .groups) m) v (held l y) s′ (ap (λ u. u .values) (h .holds)) (ap (λ u. u .blocks) (h .holds)) in
     let w : Spoke due (said (asked l (x .groups) m) v s′) r at s r′ = subst (λ z. Spoke due z r at s r′) e (f .spoke) in
     record {
-      spoke = subst (λ u. Spoke due (said (asked l (x .groups) m) u (stateAfter (asked l (x .groups) m) u (held l x))) r at s r′) (q .check) w;
-      leaves = subst (λ u. LeftAs l (stateAfter (asked l (x .groups) m) u (held l x)) g y) (q .check) h;
+      spoke = subst (λ u. Spoke due (said (asked l (x .groups) m) u (stateAfter (asked l (x .groups) m) u (held l x))) r at s r′) q w;
+      leaves = subst (λ u. LeftAs l (stateAfter (asked l (x .groups) m) u (held l x)) g y) q h;
     }

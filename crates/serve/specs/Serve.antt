@@ -1,30 +1,62 @@
 -- What the work of a message leaves, against what the definition gives. Assumes nothing.
 use mathlib.Core.Path.{_≡_}
-use mathlib.Core.Bool.{Bool, false}
+use mathlib.Core.Bool.{Bool, true, false}
 use mathlib.Core.List.{List}
-use Prim.Native.Nat.{ℕ, _<_}
+use Prim.Native.Nat.{ℕ, _≤_, _<_}
 use lib.ListN.{length, drop}
-use Rattle.bsmp.specs.Base.{byteAt}
-use Rattle.bsmp.specs.Board.{Layout, State}
+use Rattle.bsmp.specs.Base.{every, byteAt}
+use Rattle.bsmp.specs.Board.{Layout, State, isType}
 use Rattle.bsmp.specs.Codes.{commandOf}
-use Rattle.bsmp.specs.Message.{line, asked, judge, said, spoken, stateAfter, handled}
+use Rattle.bsmp.specs.Message.{line, asked, said, spoken, stateAfter, handled}
 use Rattle.bsmp.specs.Store.{Lent, held}
 use Rattle.bsmp.specs.declared.Command.{Command}
-use Rattle.bsmp.specs.declared.Command.the-variants.{RunFunction}
+use Rattle.bsmp.specs.declared.Command.the-variants.{Version, ListVariables, ListGroups, ShowGroup, ListCurves, ListFunctions, ReadVariable, ReadGroup, WriteVariable, WriteGroup}
+use Rattle.bsmp.specs.declared.Command.the-variants.{MaskVariable, MaskGroup, WriteRead, MakeGroup, RemoveGroups, ReadBlock, WriteBlock, RunFunction, Unknown}
 use Rattle.bsmp.specs.declared.Check.{Check}
 use Rattle.bsmp.specs.declared.Check.the-variants.{Pass}
-use Rattle.judging.specs.Judging.{Judgement}
+use Rattle.records.specs.Lending.{writableMarks}
+use Rattle.judging.specs.Judging.{lentLayout, Judgement}
 use Rattle.changes.specs.Changes.{LeftAs}
 use Rattle.changes.specs.declared.Regroup.{Regroup}
 use Rattle.answers.specs.Answers.{spokenOf, Spoke}
 use Rattle.answers.specs.declared.Spoken.{Spoken}
 
--- a message's command and its judgement
-pub record JudgedAs (l : Layout) (gs : List ℕ) (busy : ℕ) (m : List ℕ) (k : Command) (v : Check) : Type 0 where
-  pub command : k ≡ commandOf (byteAt m 0)
-  pub check : v ≡ judge l gs busy m
+-- whether a command looks at which variables are writable: those that list, show or write variables or groups
+abbrev pub looksAtTypes : Command → Bool
+looksAtTypes Version = false
+looksAtTypes ListVariables = true
+looksAtTypes ListGroups = true
+looksAtTypes ShowGroup = true
+looksAtTypes ListCurves = false
+looksAtTypes ListFunctions = false
+looksAtTypes ReadVariable = false
+looksAtTypes ReadGroup = true
+looksAtTypes WriteVariable = true
+looksAtTypes WriteGroup = true
+looksAtTypes MaskVariable = true
+looksAtTypes MaskGroup = true
+looksAtTypes WriteRead = true
+looksAtTypes MakeGroup = false
+looksAtTypes RemoveGroups = false
+looksAtTypes ReadBlock = false
+looksAtTypes WriteBlock = false
+looksAtTypes RunFunction = false
+looksAtTypes Unknown = false
 
--- the same under some busy marks: what carrying a message out and answering it lean on
+-- types as a usable board has them
+pub record SoundTypes (types : List ℕ) : Type 0 where
+  pub few : length types ≤ 64
+  pub each : every isType types ≡ true
+
+-- the marks of the writable variables, for a command that looks at them
+pub record MarksFor (k : Command) (types : List ℕ) (w : ℕ) : Type 0 where
+  pub marks : looksAtTypes k ≡ true → w ≡ writableMarks types
+
+-- the layout of what is lent, with types in the place of marks
+abbrev pub typedLayout : (sizes types curves functions : List ℕ) → Layout
+typedLayout ns ws cs fs = lentLayout ns (writableMarks ws) cs fs
+
+-- a message's command and its judgement under some busy marks: what carrying it out and answering it lean on
 pub record Judged (l : Layout) (gs m : List ℕ) (k : Command) (v : Check) : Type 0 where
   pub command : k ≡ commandOf (byteAt m 0)
   pub judgement : Judgement l gs m v

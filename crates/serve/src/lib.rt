@@ -13,7 +13,7 @@ ghost use Rattle.bsmp.specs.declared.Command.the-variants.{RunFunction};
 ghost use Rattle.records.specs.Lending.{lent};
 ghost use Rattle.judging.specs.Judging.{lentLayout, SoundBoard};
 ghost use Rattle.answers.specs.Answers.{Spoke};
-ghost use Rattle.serve.specs.Serve.{JudgedAs, Judged, CarriedOut, Quiet, Unanswered, Named, Fulfilled, ServedAs};
+ghost use Rattle.serve.specs.Serve.{looksAtTypes, SoundTypes, MarksFor, typedLayout, Judged, CarriedOut, Quiet, Unanswered, Named, Fulfilled, ServedAs};
 
 // A message's command, and how it was judged.
 struct Verdict {
@@ -27,31 +27,42 @@ pub struct Served {
     pub regroup: Regroup,
 }
 
-fn judge(
-    sizes: &[u8],
-    writable: u64,
-    curves: &[u32],
-    functions: &[u8],
-    groups: &[u64],
-    message: &[u8],
-    busy: u64,
-) -> Verdict
-    requires { ⌜ (length (now sizes) ≤ 64) × (length (now groups) ≤ 5) ⌝ }
-    ensures { λ r. let l = lentLayout (now (sizes .entry)) writable (now (curves .entry)) (now (functions .entry)) in
-        ⌜ JudgedAs l (now (groups .entry)) busy (now (message .entry)) (r .command) (r .check) ⌝ }
+// Whether a command looks at which variables are writable.
+fn looks_at_types(command: Command) -> bool
+    ensures { λ r. ⌜ r ≡ looksAtTypes command ⌝ }
 {
-    let command = judging::command_of(message);
-    let check = judging::judge(
-        command,
-        sizes,
-        writable,
-        curves,
-        functions,
-        groups,
-        message,
-        busy,
-    );
-    Verdict { command, check }
+    match command {
+        Command::ListVariables => true,
+        Command::ListGroups => true,
+        Command::ShowGroup => true,
+        Command::ReadGroup => true,
+        Command::WriteVariable => true,
+        Command::WriteGroup => true,
+        Command::MaskVariable => true,
+        Command::MaskGroup => true,
+        Command::WriteRead => true,
+        Command::Version => false,
+        Command::ListCurves => false,
+        Command::ListFunctions => false,
+        Command::ReadVariable => false,
+        Command::MakeGroup => false,
+        Command::RemoveGroups => false,
+        Command::ReadBlock => false,
+        Command::WriteBlock => false,
+        Command::RunFunction => false,
+        Command::Unknown => false,
+    }
+}
+
+// The writable variables as marks, for a command that looks at them: to make them takes a walk over all variables.
+fn marks_for(command: Command, types: &[u8]) -> u64
+    requires { ⌜ SoundTypes (now types) ⌝ }
+    ensures { λ r. ⌜ MarksFor command (now (types .entry)) r ⌝ }
+{
+    if looks_at_types(command) {
+        return records::marks_of(types);
+    }
+    0
 }
 
 // Carries out a message if it passed its tests.
@@ -273,7 +284,7 @@ fn fulfil(
 pub fn serve(
     due: bool,
     sizes: &[u8],
-    writable: u64,
+    types: &[u8],
     curves: &[u32],
     functions: &[u8],
     groups: &[u64],
@@ -284,17 +295,29 @@ pub fn serve(
     reply: &mut [u8],
     at: usize,
 ) -> Served
-    requires { ⌜ SoundBoard (lentLayout (now sizes) writable (now curves) (now functions)) (lent (now values) (now blocks) (now groups)) ⌝ }
+    requires { let l = typedLayout (now sizes) (now types) (now curves) (now functions) in
+        ⌜ SoundBoard l (lent (now values) (now blocks) (now groups)) × SoundTypes (now types) ⌝ }
     requires { ⌜ at + 4099 ≤ length (now reply) ⌝ }
-    ensures { λ r. let l = lentLayout (now (sizes .entry)) writable (now (curves .entry)) (now (functions .entry)) in
+    ensures { λ r. let l = typedLayout (now (sizes .entry)) (now (types .entry)) (now (curves .entry)) (now (functions .entry)) in
         let x = lent (now (values .entry)) (now (blocks .entry)) (now (groups .entry)) in
         let y = lent (now (values .exit)) (now (blocks .exit)) (now (groups .entry)) in
         ⌜ ServedAs due l busy (now (message .entry)) x (now (reply .entry)) at (r .said) (r .regroup) (now (reply .exit)) y ⌝ }
 {
-    let verdict = judge(sizes, writable, curves, functions, groups, message, busy);
+    let command = judging::command_of(message);
+    let writable = marks_for(command, types);
+    let check = judging::judge(
+        command,
+        sizes,
+        writable,
+        curves,
+        functions,
+        groups,
+        message,
+        busy,
+    );
     fulfil(
         due,
-        verdict,
+        Verdict { command, check },
         sizes,
         writable,
         curves,

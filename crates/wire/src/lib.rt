@@ -14,7 +14,7 @@ pub enum Opened {
 }
 
 // Whether own address and multicast byte are such as a node may have.
-pub fn usable_place(own: u8, multicast: u8) -> bool
+fn usable_place(own: u8, multicast: u8) -> bool
     ensures { λ r. ⌜ r ≡ usablePlace (placed own multicast) ⌝ }
 {
     if own < 1 {
@@ -36,10 +36,16 @@ pub fn in_multicast(multicast: u8, address: u8) -> bool
     (multicast >> (255 - address)) % 2 == 1
 }
 
-// Refusals 4 to 6, in this order.
-pub fn open(packet: &[u8], own: u8, multicast: u8) -> Opened
-    ensures { λ r. ⌜ r ≡ openedOf (placed own multicast) (now (packet .entry)) ⌝ }
+// Refusals 2 to 6, in this order; `room` is the length of the reply buffer.
+pub fn open(packet: &[u8], own: u8, multicast: u8, room: usize) -> Opened
+    ensures { λ r. ⌜ r ≡ openedOf (placed own multicast) room (now (packet .entry)) ⌝ }
 {
+    if !usable_place(own, multicast) {
+        return Opened::Refused(Refusal::BadAddress);
+    }
+    if room < 4104 {
+        return Opened::Refused(Refusal::ReplyBufferShort);
+    }
     let n = packet.len();
     if n < 2 {
         return Opened::Refused(Refusal::PacketLength);

@@ -4,7 +4,7 @@ use std::path::Path;
 use std::process::exit;
 use suite::boards::board_a;
 use suite::whatif::arguments::{usage, wanted, Wanted};
-use suite::whatif::{board_file, bytes, captured, Session, Setting, Sheet, HELP};
+use suite::whatif::{board_file, bytes, captured, Session, Setting, Sheet, HELP, VERSION};
 
 const BOARD_FILES: &str = include_str!("../../../docs/BOARD-FILE.md");
 
@@ -44,7 +44,7 @@ fn run(wanted: Wanted) -> Result<(), Stop> {
         return write!(output, "{}{}", HELP, BOARD_FILES).map_err(unwritable);
     }
     if wanted.version {
-        return writeln!(output, "whatif {}", env!("CARGO_PKG_VERSION")).map_err(unwritable);
+        return writeln!(output, "whatif {}", VERSION).map_err(unwritable);
     }
     let mut session = Session {
         setting: setting(&wanted)?,

@@ -3,13 +3,25 @@
 // More bytes than this are not shown one by one.
 const SHOWN: usize = 24;
 
+/// What is wrong with a text in hex, and at which place, from 1.
+#[derive(Clone, Debug, PartialEq, Eq)]
+pub struct Wrong {
+    pub place: usize,
+    pub message: String,
+}
+
 /// The bytes of a text in hex; else what is wrong with it, and at which place, from 1. Spaces, commas, colons and dashes may stand between
 /// bytes, 0x before them; 00*3 stands for 00 00 00.
 pub fn bytes(text: &str) -> Result<Vec<u8>, String> {
+    placed(text).map_err(|wrong| wrong.message)
+}
+
+/// The same, with the place of what is wrong as a number too.
+pub fn placed(text: &str) -> Result<Vec<u8>, Wrong> {
     let separates = |letter: char| letter.is_whitespace() || matches!(letter, ',' | ':' | '-');
     let (mut all, mut place) = (Vec::new(), 1);
     for word in text.split(separates) {
-        let (piece, times) = repeated(word)?;
+        let (piece, times) = repeated(word).map_err(|message| Wrong { place, message })?;
         all.extend(word_bytes(piece, place)?.repeat(times));
         place += word.chars().count() + 1;
     }
@@ -28,22 +40,31 @@ pub fn repeated(word: &str) -> Result<(&str, usize), String> {
 }
 
 // The bytes of a word that starts at a place. After 0x, one digit is a byte too.
-fn word_bytes(word: &str, place: usize) -> Result<Vec<u8>, String> {
+fn word_bytes(word: &str, place: usize) -> Result<Vec<u8>, Wrong> {
     let prefixed = word.strip_prefix("0x").or_else(|| word.strip_prefix("0X"));
     let start = place + prefixed.map_or(0, |_| 2);
+    let wrong = |place: usize, message: String| Wrong { place, message };
     let digit = |(at, letter): (usize, char)| {
+        let place = start + at;
         let digit = letter.to_digit(16).map(|digit| digit as u8);
-        digit.ok_or_else(|| format!("{:?} at place {} is no hex digit", letter, start + at))
+        digit.ok_or_else(|| {
+            let message = format!("{:?} at place {} is no hex digit", letter, place);
+            wrong(place, message)
+        })
     };
     let letters = prefixed.unwrap_or(word).chars();
     let digits: Vec<u8> = letters.enumerate().map(digit).collect::<Result<_, _>>()?;
     match (prefixed, digits.len()) {
-        (Some(_), 0) => Err(format!("no digit follows the 0x at place {}", place)),
+        (Some(_), 0) => {
+            let message = format!("no digit follows the 0x at place {}", place);
+            Err(wrong(place, message))
+        }
         (Some(_), 1) => Ok(digits),
-        (_, count) if count % 2 == 1 => Err(format!(
-            "a byte has two digits, and at place {} stands one",
-            start + count - 1
-        )),
+        (_, count) if count % 2 == 1 => {
+            let place = start + count - 1;
+            let message = format!("a byte has two digits, and at place {} stands one", place);
+            Err(wrong(place, message))
+        }
         _ => {
             let pairs = digits.chunks_exact(2);
             Ok(pairs.map(|pair| pair[0] << 4 | pair[1]).collect())

@@ -1,6 +1,7 @@
 //! What does the node do if: a packet or another call on a board, what the proved node makes of it, and which of 01's rules decided it.
 //!
 //! Outcome, reply, new state and the numbers that bytes mean are all the proved code's. Only the words are added here.
+#[cfg(not(target_arch = "wasm32"))]
 pub mod arguments;
 pub mod board_file;
 pub mod bytes;
@@ -29,6 +30,9 @@ pub use rule::{quotes, rule, rule_of, Rule};
 pub use session::Session;
 pub use sheet::Sheet;
 pub use things::Setting;
+
+/// The version of the program, and of the page in web/.
+pub const VERSION: &str = env!("CARGO_PKG_VERSION");
 
 /// What the program takes; tools/whatif reads it too.
 pub const HELP: &str = include_str!("help.txt");

@@ -2,7 +2,9 @@
 use super::bytes::{counted, grouped};
 use super::things::{curve, listed};
 use crate::lent::{all_declared, members, values_length, Lent};
-use cruachvel::{Kind, Variable, MOST_BLOCKS, MOST_VALUES, MOST_VARIABLES};
+use cruachvel::{
+    Kind, Variable, MOST_BLOCKS, MOST_CURVE_BYTES, MOST_VALUE_BYTES, MOST_VARIABLES,
+};
 
 /// The first thing that breaks the table, if something does.
 pub fn broken(lent: &Lent) -> Option<String> {
@@ -27,7 +29,7 @@ pub fn variables(variables: &[Variable]) -> Option<String> {
         .filter_map(|(number, record)| Some(format!("variable {} {}", number, variable(record)?)));
     wrong.next().or_else(|| {
         let total = counted(bytes, "byte");
-        (bytes > MOST_VALUES)
+        (bytes > MOST_VALUE_BYTES)
             .then(|| format!("the variables have {}; at most 4,096 are allowed", total))
     })
 }
@@ -69,7 +71,7 @@ fn curves(lent: &Lent) -> Option<String> {
     wrong.next().or_else(|| {
         let bytes = blocks_length(lent);
         let total = grouped(bytes);
-        (bytes > MOST_BLOCKS).then(|| {
+        (bytes > MOST_CURVE_BYTES).then(|| {
             format!(
                 "the curves have {} bytes; at most 65,536 are allowed",
                 total

@@ -1,5 +1,5 @@
 //! Bytes in hex, as people write them.
-use suite::whatif::bytes::bytes;
+use suite::whatif::bytes::{bytes, placed};
 
 #[test]
 fn bytes_are_read_as_people_write_them() {
@@ -42,5 +42,20 @@ fn bad_hex_is_told_with_its_place() {
     ];
     for (text, message) in wrong {
         assert_eq!(bytes(text), Err(message.to_string()));
+    }
+}
+
+#[test]
+fn the_place_of_bad_hex_is_a_number_too() {
+    let wrong = [
+        ("05 2G", 5),
+        ("05 0x", 4),
+        ("05 2 00", 4),
+        ("05 é0", 4),
+        ("05 06*x", 4),
+    ];
+    for (text, place) in wrong {
+        let told = placed(text).map_err(|wrong| wrong.place);
+        assert_eq!(told, Err(place), "{}", text);
     }
 }

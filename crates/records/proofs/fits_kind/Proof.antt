@@ -1,18 +1,8 @@
 -- `fits_kind` meets its contract. Assumes nothing.
 use borrow.Author.Needs.{needs}
-use Rattle.records.proofs.Checks.{fits-case}
+use Rattle.records.proofs.Checks.{fits-told}
 use Rattle.records.proofs.fits_kind.Statement.{statement}
 use Rattle.records.proofs.fits_kind.Tie as tie
 
 pub fits-kind-spec : {M : Type 1} → statement M
-fits-kind-spec =
-    tie.close
-    (tie.spec
-    (λ c κs. search needs)
-    (λ c. search needs)
-    (λ c. search needs)
-    (λ c κs. search needs)
-    (λ c. search needs)
-    (λ c. search (fits-case, needs))
-    (λ c. search (fits-case, needs))
-    (λ c. search (fits-case, needs)))
+fits-kind-spec = tie.close (tie.spec (λ c κs. search needs) (λ c. fits-told _ _ _ (c .fits-number .ensures)))

@@ -1,6 +1,6 @@
 -- `usable_board` meets its contract. Assumes nothing.
 use borrow.Author.Needs.{needs}
-use Rattle.records.proofs.Whole.{board-variables, board-values, board-curves, board-blocks, board-functions, board-groups, board-yes}
+use Rattle.records.proofs.Whole.{board-variables, board-values, board-curves, board-blocks, board-functions, board-groups}
 use Rattle.records.proofs.usable_board.Statement.{statement}
 use Rattle.records.proofs.usable_board.Tie as tie
 
@@ -10,12 +10,13 @@ usable-board-spec =
     (tie.spec
     (λ c κs. search needs)
     (λ c. search (board-variables, needs))
+    (λ c. search needs)
     (λ c. search (board-values, needs))
     (λ c κs. search needs)
     (λ c. search (board-curves, needs))
+    (λ c. search needs)
     (λ c. search (board-blocks, needs))
     (λ c κs. search needs)
     (λ c. search (board-functions, needs))
     (λ c κs. search needs)
-    (λ c. search (board-groups, needs))
-    (λ c. search (board-yes, needs)))
+    (λ c. search (board-groups, needs)))

@@ -1,7 +1,7 @@
 -- `usable_curves` meets its contract: one walk over the records, three numbers at a time. Assumes nothing.
 use Prim.Native.Nat.{_-_}
 use borrow.Author.Needs.{needs}
-use Rattle.records.proofs.Checks.{curves-refused, curves-large}
+use Rattle.records.proofs.Checks.{refused-total, curves-large}
 use Rattle.records.proofs.Thirds.{Stepped, stepped-start, curves-over, curves-cut, stepped-stop, stepped-next, stepped-mul, stepped-fits, stepped-sum, stepped-end}
 use Rattle.records.proofs.usable_curves.Statement.{statement}
 use Rattle.records.proofs.usable_curves.Tie as tie
@@ -18,8 +18,8 @@ usable-curves-spec =
     (tie.spec
     Inv-loop
     μ-loop
-    (λ c. search (curves-refused, curves-over, needs))
-    (λ c. search (curves-refused, curves-cut, needs))
+    (λ c. search (refused-total, curves-over, needs))
+    (λ c. search (refused-total, curves-cut, needs))
     (λ c. search (stepped-start, needs))
     (λ c. search needs)
     (λ c. search needs)
@@ -30,13 +30,11 @@ usable-curves-spec =
     (λ c. search needs)
     (λ c. search needs)
     (λ c κs. search needs)
-    (λ c. search (curves-refused, stepped-stop, needs))
-    (λ c. search needs)
-    (λ c. search needs)
+    (λ c. search (refused-total, stepped-stop, needs))
     (λ c. search stepped-mul)
     (λ c. search (stepped-fits, needs))
     (λ c. search needs)
     (λ c. search needs)
     (λ c. search (stepped-next, needs))
-    (λ c. search (curves-refused, curves-large, stepped-sum, needs))
+    (λ c. search (refused-total, curves-large, stepped-sum, needs))
     (λ c. search (stepped-end, needs)))

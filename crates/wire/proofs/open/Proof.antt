@@ -8,6 +8,9 @@ pub open-spec : {M : Type 1} → statement M
 open-spec =
     tie.close
     (tie.spec
+    (λ c κs. search needs)
+    (λ c. search (open-cases, needs))
+    (λ c. search (open-cases, needs))
     (λ c. search (open-cases, needs))
     (λ c. search (open-cases, needs))
     (λ c κs. search needs)

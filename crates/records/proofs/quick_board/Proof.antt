@@ -1,0 +1,22 @@
+-- `quick_board` meets its contract. Assumes nothing.
+use borrow.Author.Needs.{needs}
+use Rattle.records.proofs.Whole.{board-variables, board-values, board-curves, board-blocks, board-functions, board-groups}
+use Rattle.records.proofs.quick_board.Statement.{statement}
+use Rattle.records.proofs.quick_board.Tie as tie
+
+pub quick-board-spec : {M : Type 1} → statement M
+quick-board-spec =
+    tie.close
+    (tie.spec
+    (λ c κs. search needs)
+    (λ c. search (board-variables, needs))
+    (λ c. search needs)
+    (λ c. search (board-values, needs))
+    (λ c κs. search needs)
+    (λ c. search (board-curves, needs))
+    (λ c. search needs)
+    (λ c. search (board-blocks, needs))
+    (λ c κs. search needs)
+    (λ c. search (board-functions, needs))
+    (λ c κs. search needs)
+    (λ c. search (board-groups, needs)))

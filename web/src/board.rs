@@ -1,0 +1,158 @@
+//! A board for the page: what it holds now, and the words of its lines in a board file.
+use suite::boards;
+use suite::lent::{members, Lent};
+use suite::whatif::bytes::{hex, shown};
+use suite::whatif::changes::value_text;
+use suite::whatif::json::{array, object, string};
+use suite::whatif::things::{
+    curve, curve_start, curve_text, function, function_text, group, group_text, kind_name, listed,
+    number, type_name, value, variable_text, Setting,
+};
+
+/// Board A of 01, which is there before any other.
+pub fn board_a() -> Setting {
+    Setting {
+        lent: boards::board_a(),
+        busy: 0,
+    }
+}
+
+/// What the board has, thing by thing: its name, what it is, what it holds, and of a variable whether it is busy.
+pub fn things(setting: &Setting) -> String {
+    let lent = &setting.lent;
+    let mut things = vec![thing("address", &address_text(lent), None)];
+    things.extend((0..lent.variables.len()).map(|number| variable(setting, number)));
+    things.extend((0..).map_while(|number| group_thing(lent, number)));
+    things.extend((0..).map_while(|number| curve_thing(lent, number)));
+    things.extend((0..).map_while(|number| function_thing(lent, number)));
+    object([("things", array(things))])
+}
+
+fn thing(name: &str, what: &str, holds: Option<String>) -> String {
+    let holds = holds.map(|holds| ("holds", string(&holds)));
+    object(
+        [("name", string(name)), ("what", string(what))]
+            .into_iter()
+            .chain(holds),
+    )
+}
+
+fn address_text(lent: &Lent) -> String {
+    let joined = members(lent.address.multicast.reverse_bits().into()).map(|bit| 248 + bit);
+    format!("{}; multicast {}", lent.address.own, listed(joined))
+}
+
+fn variable(setting: &Setting, number: usize) -> String {
+    let lent = &setting.lent;
+    let busy = number < 64 && setting.busy >> number & 1 == 1;
+    let holds = value_text(lent, number, value(lent, number));
+    object([
+        ("name", string(&format!("variable {}", number))),
+        ("what", string(&variable_text(&lent.variables[number]))),
+        ("holds", string(&holds)),
+        ("number", number.to_string()),
+        ("busy", busy.to_string()),
+    ])
+}
+
+fn group_thing(lent: &Lent, number: usize) -> Option<String> {
+    let what = group_text(group(lent, number)?);
+    Some(thing(&format!("group {}", number), &what, None))
+}
+
+fn curve_thing(lent: &Lent, number: usize) -> Option<String> {
+    let what = curve_text(curve(lent, number)?);
+    let holds = shown(curve_bytes(lent, number));
+    Some(thing(&format!("curve {}", number), &what, Some(holds)))
+}
+
+fn function_thing(lent: &Lent, number: usize) -> Option<String> {
+    let what = function_text(function(lent, number)?);
+    Some(thing(&format!("function {}", number), &what, None))
+}
+
+// A curve's bytes, as far as the store has them.
+fn curve_bytes(lent: &Lent, number: usize) -> &[u8] {
+    let end = lent.blocks.len();
+    let (start, after) = (curve_start(lent, number), curve_start(lent, number + 1));
+    &lent.blocks[start.min(end)..after.min(end)]
+}
+
+/// The words of the lines that describe a board, by the name that starts the line.
+pub fn form(setting: &Setting) -> String {
+    let lent = &setting.lent;
+    let mut fitted = lent.clone();
+    fitted.refit();
+    let functions = lent.functions.chunks(2);
+    object([
+        ("address", rows([vec![lent.address.own.to_string()]])),
+        ("multicast", rows([vec![hex(&[lent.address.multicast])]])),
+        (
+            "variable",
+            rows((0..lent.variables.len()).map(|number| variable_words(lent, number))),
+        ),
+        (
+            "curve",
+            rows((0..).map_while(|number| curve_words(lent, number))),
+        ),
+        (
+            "function",
+            rows(functions.map(|sizes| sizes.iter().map(u8::to_string).collect())),
+        ),
+        ("group", rows(made_groups(lent))),
+        ("busy", rows([vec![listed(members(setting.busy))]])),
+        ("values", rows(odd_store(&lent.values, &fitted.values))),
+        ("blocks", rows(odd_store(&lent.blocks, &fitted.blocks))),
+    ])
+}
+
+fn rows(rows: impl IntoIterator<Item = Vec<String>>) -> String {
+    let row = |words: Vec<String>| array(words.iter().map(|word| string(word)));
+    array(rows.into_iter().map(row))
+}
+
+fn variable_words(lent: &Lent, variable: usize) -> Vec<String> {
+    let record = &lent.variables[variable];
+    let bytes = value(lent, variable);
+    let (given, holds) = match number(lent, variable, bytes) {
+        Some(number) => ("value", number.to_string()),
+        None if bytes.len() == usize::from(record.size) => ("bytes", hex(bytes)),
+        None => ("bytes", String::new()),
+    };
+    vec![
+        type_name(record.writable == 1).to_string(),
+        record.size.to_string(),
+        kind_name(record.kind).replace(" endian", ""),
+        given.to_string(),
+        holds,
+    ]
+}
+
+// Zeros at the end need not be said.
+fn curve_words(lent: &Lent, number: usize) -> Option<Vec<String>> {
+    let record = curve(lent, number)?;
+    let bytes = curve_bytes(lent, number);
+    let said = bytes
+        .iter()
+        .rposition(|byte| *byte != 0)
+        .map_or(0, |last| last + 1);
+    Some(vec![
+        type_name(record.writable).to_string(),
+        record.size.to_string(),
+        record.blocks.to_string(),
+        hex(&bytes[..said]),
+    ])
+}
+
+// Of more groups than there is room for, nothing is known but how many they are.
+fn made_groups(lent: &Lent) -> Vec<Vec<String>> {
+    let set = |place: u64| lent.groups.sets.get(place as usize).copied().unwrap_or(0);
+    (0..lent.groups.count)
+        .map(|place| vec![listed(members(set(place)))])
+        .collect()
+}
+
+// A store needs a line of its own where it has another length than the records make.
+fn odd_store(store: &[u8], fitted: &[u8]) -> Option<Vec<String>> {
+    (store.len() != fitted.len()).then(|| vec![hex(store)])
+}
