@@ -30,13 +30,16 @@ pub extern "C" fn bsmp_packet(
         ⌜ plainPacketLeft r (now (groups .exit)) (now (reply .exit)) (now (values .exit)) (now (blocks .exit))
         ≡ packetOf board own multicast busy (now (request .entry)) (now (reply .entry)) ⌝ }
 {
-    let records = columns::columns_of(variables);
+    let mut writable = [0u8; 64];
+    let mut sizes = [0u8; 64];
+    let mut kinds = [0u8; 64];
+    let count = columns::take(variables, &mut writable, &mut sizes, &mut kinds);
     let made = *groups;
     let done = plain::packet(
-        records.count,
-        &records.writable,
-        &records.sizes,
-        &records.kinds,
+        count,
+        &writable,
+        &sizes,
+        &kinds,
         curves,
         functions,
         made,
@@ -71,13 +74,16 @@ pub extern "C" fn bsmp_function_result(
         (now (groups .entry)) (now (values .entry)) (now (blocks .entry)) in
         ⌜ plainResultLeft r (now (reply .exit)) ≡ resultOf board function due failed error (now (output .entry)) (now (reply .entry)) ⌝ }
 {
-    let records = columns::columns_of(variables);
+    let mut writable = [0u8; 64];
+    let mut sizes = [0u8; 64];
+    let mut kinds = [0u8; 64];
+    let count = columns::take(variables, &mut writable, &mut sizes, &mut kinds);
     let made = *groups;
     plain::function_result(
-        records.count,
-        &records.writable,
-        &records.sizes,
-        &records.kinds,
+        count,
+        &writable,
+        &sizes,
+        &kinds,
         curves,
         functions,
         made,
@@ -107,13 +113,16 @@ pub extern "C" fn bsmp_board_store(
         (now (groups .entry)) (now (values .entry)) (now (blocks .entry)) in
         ⌜ plainBytesLeft r (now (values .exit)) ≡ storeOf board variable (now (bytes .entry)) ⌝ }
 {
-    let records = columns::columns_of(variables);
+    let mut writable = [0u8; 64];
+    let mut sizes = [0u8; 64];
+    let mut kinds = [0u8; 64];
+    let count = columns::take(variables, &mut writable, &mut sizes, &mut kinds);
     let made = *groups;
     plain::board_store(
-        records.count,
-        &records.writable,
-        &records.sizes,
-        &records.kinds,
+        count,
+        &writable,
+        &sizes,
+        &kinds,
         curves,
         functions,
         made,
@@ -132,15 +141,11 @@ pub extern "C" fn bsmp_read_signed(
 ) -> PlainSignedReading
     ensures { λ r. ⌜ signedSays r ≡ readingOf (now (variables .entry)) variable true (now (bytes .entry)) ⌝ }
 {
-    let records = columns::columns_of(variables);
-    plain::read_signed(
-        records.count,
-        &records.writable,
-        &records.sizes,
-        &records.kinds,
-        variable,
-        bytes,
-    )
+    let mut writable = [0u8; 64];
+    let mut sizes = [0u8; 64];
+    let mut kinds = [0u8; 64];
+    let count = columns::take(variables, &mut writable, &mut sizes, &mut kinds);
+    plain::read_signed(count, &writable, &sizes, &kinds, variable, bytes)
 }
 
 #[no_mangle]
@@ -151,15 +156,11 @@ pub extern "C" fn bsmp_read_unsigned(
 ) -> PlainUnsignedReading
     ensures { λ r. ⌜ unsignedSays r ≡ readingOf (now (variables .entry)) variable false (now (bytes .entry)) ⌝ }
 {
-    let records = columns::columns_of(variables);
-    plain::read_unsigned(
-        records.count,
-        &records.writable,
-        &records.sizes,
-        &records.kinds,
-        variable,
-        bytes,
-    )
+    let mut writable = [0u8; 64];
+    let mut sizes = [0u8; 64];
+    let mut kinds = [0u8; 64];
+    let count = columns::take(variables, &mut writable, &mut sizes, &mut kinds);
+    plain::read_unsigned(count, &writable, &sizes, &kinds, variable, bytes)
 }
 
 #[no_mangle]
@@ -171,16 +172,11 @@ pub extern "C" fn bsmp_write_signed(
 ) -> u8
     ensures { λ r. ⌜ plainBytesLeft r (now (buffer .exit)) ≡ writingOf (now (variables .entry)) variable true number (now (buffer .entry)) ⌝ }
 {
-    let records = columns::columns_of(variables);
-    plain::write_signed(
-        records.count,
-        &records.writable,
-        &records.sizes,
-        &records.kinds,
-        variable,
-        number,
-        buffer,
-    )
+    let mut writable = [0u8; 64];
+    let mut sizes = [0u8; 64];
+    let mut kinds = [0u8; 64];
+    let count = columns::take(variables, &mut writable, &mut sizes, &mut kinds);
+    plain::write_signed(count, &writable, &sizes, &kinds, variable, number, buffer)
 }
 
 #[no_mangle]
@@ -192,14 +188,9 @@ pub extern "C" fn bsmp_write_unsigned(
 ) -> u8
     ensures { λ r. ⌜ plainBytesLeft r (now (buffer .exit)) ≡ writingOf (now (variables .entry)) variable false (pos number) (now (buffer .entry)) ⌝ }
 {
-    let records = columns::columns_of(variables);
-    plain::write_unsigned(
-        records.count,
-        &records.writable,
-        &records.sizes,
-        &records.kinds,
-        variable,
-        number,
-        buffer,
-    )
+    let mut writable = [0u8; 64];
+    let mut sizes = [0u8; 64];
+    let mut kinds = [0u8; 64];
+    let count = columns::take(variables, &mut writable, &mut sizes, &mut kinds);
+    plain::write_unsigned(count, &writable, &sizes, &kinds, variable, number, buffer)
 }

@@ -10,36 +10,45 @@ use lib.ListN.{length, getD, set, length-set}
 use lib.Seq.{getD-set-same, getD-set-other, ext-getD}
 use Rattle.bsmp.specs.declared.Variable.{Variable}
 use Rattle.records.specs.declared.Records.{Records}
-use Rattle.records.specs.Lending.{recordAt, recordsOf}
+use Rattle.records.specs.Lending.{recordAt, recordsBy, recordsOf}
 use Rattle.records.proofs.Lending.{record-count, record-at}
-use Rattle.columns.specs.Columns.{countedOf, blankVariable, variableAt, withRecord, columnsTo, columnsOf}
+use Rattle.columns.specs.Columns.{blankVariable, variableAt, withRecord, columnsTo, zeros, columnsOf}
 
-to-count : (vs : List Variable) (k : ℕ) → columnsTo vs k .count ≡ length vs
+to-count : (r : Records) (vs : List Variable) (k : ℕ) → columnsTo r vs k .count ≡ r .count
 unfolding columnsTo
-to-count vs zero = refl
-to-count vs (suc k) = to-count vs k
+to-count r vs zero = refl
+to-count r vs (suc k) = to-count r vs k
+
+-- a store changes the columns alone
+pub columns-whole : (r : Records) (vs : List Variable) (k : ℕ)
+    → recordsBy (r .count) (columnsTo r vs k .writable) (columnsTo r vs k .sizes) (columnsTo r vs k .kinds) ≡ columnsTo r vs k
+columns-whole r vs k = ap (λ (n : ℕ). recordsBy n (columnsTo r vs k .writable) (columnsTo r vs k .sizes) (columnsTo r vs k .kinds)) (sym (to-count r vs k))
+
+-- over columns of zeros
+abbrev to : List Variable → ℕ → Records
+to vs k = columnsTo (recordsBy (length vs) zeros zeros zeros) vs k
 
 -- all are counted
 pub columns-count : (vs : List Variable) → columnsOf vs .count ≡ length vs
-columns-count vs = to-count vs (min (length vs) 64)
+columns-count vs = to-count _ vs (min (length vs) 64)
 
 -- a column: at each place the record's number
-module _ (vs : List Variable) (column : Records → List ℕ) (field : Variable → ℕ) (start : (n : ℕ) → length (column (countedOf n)) ≡ 64)
+module _ (vs : List Variable) (column : Records → List ℕ) (field : Variable → ℕ) (start : (n : ℕ) → length (column (recordsBy n zeros zeros zeros)) ≡ 64)
     (put : (r : Records) (i : ℕ) (v : Variable) → column (withRecord r i v) ≡ set (column r) i (field v)) where
-  column-length : (k : ℕ) → length (column (columnsTo vs k)) ≡ 64
+  column-length : (k : ℕ) → length (column (to vs k)) ≡ 64
   unfolding columnsTo
   column-length zero = start (length vs)
   column-length (suc k) =
-      ap length (put (columnsTo vs k) k (variableAt vs k)) ∙ length-set (column (columnsTo vs k)) k (field (variableAt vs k)) ∙ column-length k
+      ap length (put (to vs k) k (variableAt vs k)) ∙ length-set (column (to vs k)) k (field (variableAt vs k)) ∙ column-length k
 
-  column-at : (k i : ℕ) → k ≤ 64 → i < k → getD (column (columnsTo vs k)) i 0 ≡ field (variableAt vs i)
+  column-at : (k i : ℕ) → k ≤ 64 → i < k → getD (column (to vs k)) i 0 ≡ field (variableAt vs i)
   unfolding columnsTo
   column-at zero i h l = absurd (not-suc-le-zero l)
   column-at (suc k) i h l =
-      ap (λ (xs : List ℕ). getD xs i 0) (put (columnsTo vs k) k (variableAt vs k)) ∙ elim (eq-or-lt-of-le (le-of-suc-le-suc l)) [
-        | inl e ↦ subst (λ (j : ℕ). getD (set (column (columnsTo vs k)) k (field (variableAt vs k))) j 0 ≡ field (variableAt vs j)) (sym e)
-            (getD-set-same (column (columnsTo vs k)) k (field (variableAt vs k)) 0 (omega (arith, column-length k)))
-        | inr m ↦ getD-set-other (column (columnsTo vs k)) k i (field (variableAt vs k)) 0 (λ e. omega (arith, m, e)) ∙ column-at k i (omega arith) m
+      ap (λ (xs : List ℕ). getD xs i 0) (put (to vs k) k (variableAt vs k)) ∙ elim (eq-or-lt-of-le (le-of-suc-le-suc l)) [
+        | inl e ↦ subst (λ (j : ℕ). getD (set (column (to vs k)) k (field (variableAt vs k))) j 0 ≡ field (variableAt vs j)) (sym e)
+            (getD-set-same (column (to vs k)) k (field (variableAt vs k)) 0 (omega (arith, column-length k)))
+        | inr m ↦ getD-set-other (column (to vs k)) k i (field (variableAt vs k)) 0 (λ e. omega (arith, m, e)) ∙ column-at k i (omega arith) m
       ]
 
 stored-at : (vs : List Variable) (i : ℕ) → length vs ≤ 64 → i < length vs → recordAt (columnsOf vs) i ≡ variableAt vs i

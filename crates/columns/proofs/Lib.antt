@@ -1,4 +1,4 @@
 pub mod Columns
-pub mod Table
+pub mod Lent
 pub mod Walk
 pub mod Byte

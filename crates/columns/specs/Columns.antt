@@ -4,10 +4,7 @@ use Prim.Native.Nat.{ℕ, zero, suc, min}
 use lib.ListN.{length, getD, set, replicate}
 use Rattle.bsmp.specs.declared.Variable.{Variable}
 use Rattle.records.specs.declared.Records.{Records}
-
--- so many records, none of them stored yet
-abbrev pub countedOf : ℕ → Records
-countedOf n = record { count = n; writable = replicate 64 0; sizes = replicate 64 0; kinds = replicate 64 0 }
+use Rattle.records.specs.Lending.{recordsBy}
 
 -- the i-th record; past the end it is blank
 abbrev pub blankVariable : Variable
@@ -20,11 +17,18 @@ variableAt vs i = getD vs i blankVariable
 abbrev pub withRecord : Records → ℕ → Variable → Records
 withRecord r i v = record { count = r .count; writable = set (r .writable) i (v .writable); sizes = set (r .sizes) i (v .size); kinds = set (r .kinds) i (v .kind) }
 
--- all counted, and the first k stored
-unfoldable pub columnsTo : List Variable → ℕ → Records
-columnsTo vs zero = countedOf (length vs)
-columnsTo vs (suc k) = withRecord (columnsTo vs k) k (variableAt vs k)
+-- the first k stored, over what stood there
+unfoldable pub columnsTo : Records → List Variable → ℕ → Records
+columnsTo r vs zero = r
+columnsTo r vs (suc k) = withRecord (columnsTo r vs k) k (variableAt vs k)
 
 -- all counted, and as many stored as the columns have places for
+abbrev pub takenInto : (writable sizes kinds : List ℕ) → List Variable → Records
+takenInto ws ss ks vs = columnsTo (recordsBy (length vs) ws ss ks) vs (min (length vs) 64)
+
+-- .. over columns of zeros
+abbrev pub zeros : List ℕ
+zeros = replicate 64 0
+
 abbrev pub columnsOf : List Variable → Records
-columnsOf vs = columnsTo vs (min (length vs) 64)
+columnsOf vs = takenInto zeros zeros zeros vs

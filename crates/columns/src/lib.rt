@@ -1,9 +1,9 @@
-// A board's variable records, lent as a slice of small structs, taken into columns, which the work is done over.
+// A board's variable records, lent as a slice of small structs, taken into columns, which are lent to the work.
 use bsmp::Variable;
-use records::Records;
 ghost use mathlib.Core.Path.{_≡_};
 ghost use Prim.Native.Nat.{min};
-ghost use Rattle.columns.specs.Columns.{columnsOf};
+ghost use Rattle.records.specs.Lending.{recordsBy};
+ghost use Rattle.columns.specs.Columns.{takenInto};
 
 // How many of so many records have a place in the columns.
 fn stored(count: usize) -> usize
@@ -15,13 +15,16 @@ fn stored(count: usize) -> usize
     64
 }
 
-// The lent records by columns, in one walk that stores into them in place. More than 64 are counted, and so refused by the work.
-pub fn columns_of(variables: &[Variable]) -> Records
-    ensures { λ r. ⌜ r ≡ columnsOf (now (variables .entry)) ⌝ }
+// The lent records stored into columns in place, in one walk, and how many there are. Of more than 64 the rest is counted alone, and so refused by the work.
+pub fn take(
+    variables: &[Variable],
+    writable: &mut [u8; 64],
+    sizes: &mut [u8; 64],
+    kinds: &mut [u8; 64],
+) -> usize
+    ensures { λ r. ⌜ recordsBy r (now (writable .exit)) (now (sizes .exit)) (now (kinds .exit))
+        ≡ takenInto (now (writable .entry)) (now (sizes .entry)) (now (kinds .entry)) (now (variables .entry)) ⌝ }
 {
-    let mut writable = [0u8; 64];
-    let mut sizes = [0u8; 64];
-    let mut kinds = [0u8; 64];
     let n = stored(variables.len());
     let mut i: usize = 0;
     while i < n {
@@ -31,10 +34,5 @@ pub fn columns_of(variables: &[Variable]) -> Records
         kinds[i] = v.kind;
         i += 1;
     }
-    Records {
-        count: variables.len(),
-        writable,
-        sizes,
-        kinds,
-    }
+    variables.len()
 }

@@ -6,9 +6,9 @@ use mathlib.Core.Bool.{true}
 use Rattle.plain.specs.Calls.{readingOf}
 use Rattle.bsmp_c.proofs.Same.{reading-same}
 use Rattle.bsmp_c.proofs.ReadSignedWalk as thin
-use Rattle.columns.proofs.columns_of.Symbol as table-def
-use Rattle.columns.proofs.columns_of.Symbol.{name as #columns·columns-of}
-use Rattle.columns.proofs.columns_of.Met as table-thm
+use Rattle.columns.proofs.take.Symbol as table-def
+use Rattle.columns.proofs.take.Symbol.{name as #columns·take}
+use Rattle.columns.proofs.take.Met as table-thm
 use Rattle.plain.proofs.read_signed.Symbol as work-def
 use Rattle.plain.proofs.read_signed.Symbol.{name as #plain·read-signed}
 use Rattle.plain.proofs.read_signed.Met as work-thm
@@ -28,6 +28,6 @@ unfolding code.routine tablesOf
 bsmp-read-signed-spec 𝓤 H 𝓜 𝓖 𝓡 =
     entered 𝓤 H (tripleOf 𝓤 H (𝓖 .A) f.signature (f.spec 𝓤 H (𝓖 .A) (𝓜 .mem) (𝓡 .run)))
     (tables 𝓤 H 𝓜 𝓡 code.env .C) (tables 𝓤 H 𝓜 𝓡 code.env .Λ) #bsmp_c·bsmp-read-signed code.function (code.unfolded 𝓤 H 𝓜 𝓡)
-    (thin.meets turnOf agree #columns·columns-of #plain·read-signed 𝓤 H (𝓖 .A) (givenOf 𝓤 H 𝓜 𝓖) (𝓜 .mem) (𝓡 .run) (tablesOf 𝓤 H 𝓜 (tables 𝓤 H 𝓜 𝓡 code.env))
-    (cited 𝓤 H (thin.TableOf 𝓤 H (𝓖 .A) (𝓜 .mem) (𝓡 .run)) 𝓜 𝓡 code.env #columns·columns-of table-def.routine code.calls-columns·columns-of (table-thm.met 𝓤 H 𝓜 𝓖 𝓡))
+    (thin.meets turnOf agree #columns·take #plain·read-signed 𝓤 H (𝓖 .A) (givenOf 𝓤 H 𝓜 𝓖) (𝓜 .mem) (𝓡 .run) (tablesOf 𝓤 H 𝓜 (tables 𝓤 H 𝓜 𝓡 code.env))
+    (cited 𝓤 H (thin.TableOf 𝓤 H (𝓖 .A) (𝓜 .mem) (𝓡 .run)) 𝓜 𝓡 code.env #columns·take table-def.routine code.calls-columns·take (table-thm.met 𝓤 H 𝓜 𝓖 𝓡))
     (cited 𝓤 H (thin.Work 𝓤 H (𝓖 .A) turnOf) 𝓜 𝓡 code.env #plain·read-signed work-def.routine code.calls-plain·read-signed (work-thm.met 𝓤 H 𝓜 𝓖 𝓡)))
