@@ -1,16 +1,17 @@
 -- The rules of refusal 1 as the code meets them, one after another. Assumes nothing.
 use mathlib.Core.Path.{_≡_, refl, sym, _∙_}
-use mathlib.Core.Bool.{Bool, true, false, not, _&&_, _||_, and-false}
+use mathlib.Core.Bool.{Bool, true, false, not, _&&_, _||_, and-false, and-assoc, false≢true}
 use mathlib.Core.List.{List, [], _∷_}
-use Prim.Native.Nat.{ℕ, zero, suc, _+_, _*_, _/_, _^_, _≤_, _<_}
+use Prim.Native.Nat.{ℕ, zero, suc, _+_, _-_, _*_, _/_, _^_, _≤_, _<_}
 use native.Mathlib.Omega.{arith}
 use native.Mathlib.Nat.{lt-of-lt-of-le, mul-le-mul, one-mul, one-le-pow, pow-le-pow-right, div-eq-of-lt, le-div-iff-mul-le}
+use lib.Bits.{bitAnd, bitOr}
 use lib.Dec.{leb, ltb, eqb, lit<}
 use lib.ListN.{length, getD}
-use mir.Syntax.{w32}
+use mir.Syntax.{w8, w32}
 use mir.Val.{Fits}
 use borrow.Author.Tests.{lt-ltb, le-ltb, lt-leb, le-leb, ne-eqb, ltb-true, ltb-false, leb-true, not-false}
-use Rattle.bsmp.specs.Base.{sum, all, every, some, within}
+use Rattle.bsmp.specs.Base.{sum, upFrom, all, every, some, within}
 use Rattle.bsmp.specs.Codes.{kindOf}
 use Rattle.bsmp.specs.Board.{isType, fitsKind, sizesOf, usableVariable, variableRules, usableVariables, usableCurve, curveRules, usableCurves}
 use Rattle.bsmp.specs.declared.Variable.{Variable}
@@ -18,6 +19,42 @@ use Rattle.bsmp.specs.declared.Curve.{Curve}
 use Rattle.bsmp.specs.declared.Function.{Function}
 use Rattle.bsmp.proofs.Bools.{and-true}
 use Rattle.records.specs.Checks.{totalOf, variablesTotal, curveBytes, curvesTotal}
+
+-- what the code tests of a size, computed over all bytes
+abbrev oneLowBit : ℕ → Bool
+oneLowBit n = eqb (bitAnd n (bitOr (bitOr n 128 - 1) 112)) 0
+
+abbrev alike : Bool → Bool → Bool
+alike true b = b
+alike false b = not b
+
+abbrev sizeTest : ℕ → Bool
+sizeTest n = not (within 1 127 n) || alike (oneLowBit n) (some (eqb n) (1 ∷ 2 ∷ 4 ∷ 8 ∷ []))
+
+all-sizes : every sizeTest (upFrom 0 256) ≡ true
+all-sizes = refl
+
+all-above : every (λ n. leb 1 (bitOr n 128)) (upFrom 0 256) ≡ true
+all-above = refl
+
+each-up : (f : ℕ → Bool) (k n i : ℕ) → every f (upFrom k n) ≡ true → i < n → f (k + i) ≡ true
+each-up f k zero i h l = absurd (omega (arith, l))
+each-up f k (suc n) zero h l = let z : k + 0 ≡ k = omega arith in rw z (and-true (f k) _ h .0)
+each-up f k (suc n) (suc i) h l = let z : suc k + i ≡ k + suc i = omega arith in rw z at (each-up f (suc k) n i (and-true (f k) _ h .1) (omega (arith, l)))
+
+of-all : (f : ℕ → Bool) → every f (upFrom 0 256) ≡ true → (n : ℕ) → Fits w8 n → f n ≡ true
+of-all f h n l = let z : 0 + n ≡ n = omega arith in rw z at (each-up f 0 256 n h (l .fits))
+
+told-alike : (a b : Bool) → alike a b ≡ true → a ≡ b
+told-alike true b h = sym h
+told-alike false true h = absurd (false≢true h)
+told-alike false false h = refl
+
+pub size-less : (n : ℕ) → Fits w8 n → 1 ≤ bitOr n 128
+size-less n l = leb-true 1 _ (of-all (λ m. leb 1 (bitOr m 128)) all-above n l)
+
+pub size-told : (n : ℕ) → Fits w8 n → within 1 127 n ≡ true → oneLowBit n ≡ some (eqb n) (1 ∷ 2 ∷ 4 ∷ 8 ∷ [])
+size-told n l u = told-alike _ _ (rw u at (of-all sizeTest all-sizes n l))
 
 -- kind 0 fits every size, 1 to 4 a number's sizes, and no other fits
 pub fits-told : (n k : ℕ) (b : Bool) → b ≡ some (eqb n) (1 ∷ 2 ∷ 4 ∷ 8 ∷ []) → (eqb k 0 || (leb k 4 && b)) ≡ fitsKind n (kindOf k)
@@ -30,6 +67,18 @@ fits-told n (suc (suc (suc (suc zero)))) b e = e
 fits-told n (suc (suc (suc (suc (suc k))))) b e =
     let x : ℕ = suc (suc (suc (suc (suc k)))) in
     rw (lt-leb x 4 (omega arith), ne-eqb x 0 (λ z. omega (arith, z)), ne-eqb x 1 (λ z. omega (arith, z)), ne-eqb x 2 (λ z. omega (arith, z)), ne-eqb x 3 (λ z. omega (arith, z)), ne-eqb x 4 (λ z. omega (arith, z)))
+
+-- a kind counts only where the size is a usable one
+pub variable-told : (v : Variable) (b : Bool) → (within 1 127 (v .size) ≡ true → b ≡ fitsKind (v .size) (kindOf (v .kind)))
+    → (((leb (v .writable) 1 && leb 1 (v .size)) && leb (v .size) 127) && b) ≡ usableVariable v
+variable-told v b h = by (within 1 127 (v .size)) refl
+  where
+    w : Bool
+    w = leb (v .writable) 1
+
+    by : (u : Bool) → within 1 127 (v .size) ≡ u → (((w && leb 1 (v .size)) && leb (v .size) 127) && b) ≡ ((w && within 1 127 (v .size)) && fitsKind (v .size) (kindOf (v .kind)))
+    by true e = rw (and-assoc w (leb 1 (v .size)) (leb (v .size) 127), h e)
+    by false e = rw (and-assoc w (leb 1 (v .size)) (leb (v .size) 127), e, and-false w)
 
 -- rules joined by &&, one after another; x is what the code answers
 module _ (a b : Bool) where

@@ -17,7 +17,8 @@ use Rattle.bsmp.specs.declared.Variable.{Variable}
 use Rattle.records.specs.declared.Records.{Records}
 use Rattle.records.specs.Lending.{recordsBy, recordAt, recordsOf, writableMarks}
 use Rattle.records.specs.Checks.{variablesTotal}
-use Rattle.records.proofs.Walk.{Walked, every-at, walked-start, walked-next, walked-stop, walked-end, sum-next, sum-end, marks-next, marks-end}
+use Rattle.bsmp.proofs.Lists.{every-at}
+use Rattle.records.proofs.Walk.{Walked, walked-start, walked-next, walked-stop, walked-end, sum-next, sum-end, marks-next, marks-end}
 use Rattle.records.proofs.Lending.{noVariable, record-count, record-at}
 use Rattle.records.proofs.Checks.{variable-rules, variables-taken, variables-broken}
 

@@ -14,7 +14,7 @@ use Rattle.bsmp.specs.Base.{upFrom, every}
 use Rattle.bsmp.specs.Board.{blankFunction, usableFunctions}
 use Rattle.bsmp.proofs.Bools.{and-true, bool-eq, not-so}
 use Rattle.records.specs.Lending.{functionAt, functionsOf}
-use Rattle.records.proofs.Walk.{every-at}
+use Rattle.bsmp.proofs.Lists.{every-at}
 use Rattle.records.proofs.Lending.{function-count, function-broken}
 use Rattle.records.proofs.Checks.{usableFunction}
 

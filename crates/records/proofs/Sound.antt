@@ -16,7 +16,7 @@ use Rattle.bsmp.proofs.Bools.{and-true, all-at}
 use Rattle.bsmp.proofs.Store.{store-length, lengths-cut}
 use Rattle.bsmp.proofs.Usable.{usable-parts, usable-whole}
 use Rattle.records.specs.Checks.{curveBytes}
-use Rattle.records.proofs.Walk.{every-at}
+use Rattle.bsmp.proofs.Lists.{every-at}
 use Rattle.records.proofs.Checks.{inside, curve-rules, usableFunction, usableGroup}
 
 pub record Sound (t : Table) (x : Lent) : Type 0 where

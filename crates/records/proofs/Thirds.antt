@@ -5,7 +5,7 @@ use mathlib.Core.List.{List}
 use Prim.Native.Nat.{ℕ, _+_, _*_, _/_, _%_, _≤_, _<_}
 use native.Mathlib.Omega.{arith}
 use lib.ListN.{length, drop, getD}
-use mir.Syntax.{w32}
+use mir.Syntax.{w32, w64}
 use mir.Val.{Fits}
 use Rattle.bsmp.specs.Base.{every}
 use Rattle.bsmp.specs.Board.{blankCurve, usableCurve, usableCurves}
@@ -13,27 +13,29 @@ use Rattle.bsmp.specs.declared.Curve.{Curve}
 use Rattle.bsmp.proofs.Bools.{not-so}
 use Rattle.records.specs.Lending.{curvesOf}
 use Rattle.records.specs.Checks.{curveBytes, curvesTotal}
-use Rattle.records.proofs.Walk.{Walked, every-at, walked-start, walked-next, walked-stop, walked-end, sum-next, sum-end}
+use Rattle.bsmp.proofs.Lists.{every-at}
+use Rattle.records.proofs.Walk.{Walked, walked-start, walked-next, walked-stop, walked-end, sum-next, sum-end}
 use Rattle.records.proofs.Lending.{curve-count, curve-whole, curve-broken}
 use Rattle.records.proofs.Checks.{curves-many, curves-broken, curves-taken, curve-fits, curve-sum-small, curve-sum-fits}
 
 -- s bytes in the blocks of those before number i of what is lent
 pub record Stepped (ns : List ℕ) (s i : ℕ) : Type 0 where
   pub whole : i % 3 ≡ 0
+  pub inside : i ≤ length ns
   pub walked : Walked usableCurve (curvesOf ns) (i / 3)
   pub summed : s + curveBytes (drop (i / 3) (curvesOf ns)) ≡ curveBytes (curvesOf ns)
   pub small : s ≤ 268435456 * (i / 3)
 
 module _ (ns : List ℕ) where
   pub stepped-start : Stepped ns 0 0
-  stepped-start = record { whole = refl; walked = walked-start usableCurve (curvesOf ns); summed = omega arith; small = omega arith }
+  stepped-start = record { whole = refl; inside = omega arith; walked = walked-start usableCurve (curvesOf ns); summed = omega arith; small = omega arith }
 
   pub curves-over : 24 < length ns → usableCurves (curvesOf ns) ≡ false
   curves-over h = curves-many (curvesOf ns) ((length ns + 2) / 3) (curve-count ns) (omega arith)
 
   -- a record that is cut off
-  pub curves-cut : (length ns % 3 ≡ 0 → ⊥) → usableCurves (curvesOf ns) ≡ false
-  curves-cut h =
+  cut-off : (length ns % 3 ≡ 0 → ⊥) → usableCurves (curvesOf ns) ≡ false
+  cut-off h =
       let k : length ns / 3 < length (curvesOf ns) = omega (arith, curve-count ns) in
       curves-broken (curvesOf ns) (not-so (every usableCurve (curvesOf ns)) (λ u. bad (every-at usableCurve (curvesOf ns) (length ns / 3) blankCurve u k)))
     where
@@ -41,7 +43,7 @@ module _ (ns : List ℕ) where
       bad u = let z = rw (← curve-broken ns (length ns / 3) (omega arith)) at u in false≢true z
 
   -- the curve that stands at i, and what its test b gave
-  module _ (s i : ℕ) (b : Bool) (l : length ns % 3 ≡ 0) (h : i < length ns) (q : Stepped ns s i) where
+  module _ (s i : ℕ) (b : Bool) (h : i + 2 < length ns) (q : Stepped ns s i) where
     abbrev here : Curve
     here = record { writable = getD ns i 0; size = getD ns (i + 1) 0; blocks = getD ns (i + 2) 0 }
 
@@ -64,6 +66,7 @@ module _ (ns : List ℕ) where
     pub stepped-next : b ≡ usableCurve here → not b ≡ false → Stepped ns (s + getD ns (i + 1) 0 * getD ns (i + 2) 0) (i + 3)
     stepped-next e t = record {
       whole = omega (arith, q .whole);
+      inside = omega arith;
       walked = rw next (walked-next usableCurve (curvesOf ns) ((length ns + 2) / 3) (i / 3) here blankCurve b (curve-count ns) below stands e t (q .walked));
       summed = rw next (sum-next (curvesOf ns) ((length ns + 2) / 3) (i / 3) here blankCurve (curve-count ns) below stands (λ c. c .size * c .blocks) s _ _ refl (q .summed));
       small = rw next (curve-sum-small here b e t s (i / 3) (q .small));
@@ -75,8 +78,14 @@ module _ (ns : List ℕ) where
     pub stepped-fits : b ≡ usableCurve here → not b ≡ false → length ns ≤ 24 → Fits w32 (s + getD ns (i + 1) 0 * getD ns (i + 2) 0)
     stepped-fits e t k = curve-sum-fits here b e t s (i / 3) 8 (q .small) (omega arith) (omega arith)
 
+  pub curves-cut : (s i : ℕ) → length ns ≤ i + 2 → Stepped ns s i → (i ≡ length ns → ⊥) → usableCurves (curvesOf ns) ≡ false
+  curves-cut s i h q n = cut-off (λ e. n (omega (arith, q .whole, q .inside)))
+
+  pub stepped-index : (s i : ℕ) → length ns ≤ 24 → Stepped ns s i → Fits w64 (i + 2)
+  stepped-index s i l q = record { fits = omega (arith, q .inside) }
+
   -- past the last
-  module _ (s i : ℕ) (h : length ns ≤ i) (q : Stepped ns s i) where
+  module _ (s i : ℕ) (h : i ≡ length ns) (q : Stepped ns s i) where
     past : (length ns + 2) / 3 ≤ i / 3
     past = omega (arith, q .whole)
 

@@ -11,7 +11,6 @@ use lib.ListN.{length, drop, getD, drop-of-length-le}
 use lib.Seq.{drop-cons}
 use borrow.Author.Tests.{lt-ltb, le-ltb, not-true, not-false}
 use Rattle.bsmp.specs.Base.{sum, upFrom, every, bit, marksOf}
-use Rattle.bsmp.proofs.Bools.{and-true}
 use Rattle.records.specs.Lending.{numbered}
 
 -- numbered lists
@@ -69,12 +68,6 @@ module _ {A : Type 0} (f : A → Bool) (xs : List A) (n : ℕ) where
 
   pub walked-end : (i : ℕ) → n ≡ length xs → n ≤ i → Walked f xs i → every f xs ≡ true
   walked-end i l h w = sym (rw (drop-of-length-le xs {i = i} (omega arith)) at (w .rest))
-
--- one of those that all pass
-pub every-at : {A : Type 0} (f : A → Bool) (xs : List A) (i : ℕ) (d : A) → every f xs ≡ true → i < length xs → f (getD xs i d) ≡ true
-every-at f [] i d u h = absurd (omega (arith, h))
-every-at f (x ∷ xs) zero d u h = and-true (f x) (every f xs) u .0
-every-at f (x ∷ xs) (suc i) d u h = every-at f xs i d (and-true (f x) (every f xs) u .1) (omega (arith, h))
 
 -- a sum, and marks, with what is left of them from i on
 module _ {A : Type 0} (xs : List A) (n i : ℕ) (x d : A) (l : n ≡ length xs) (h : i < n) (e : x ≡ getD xs i d) where

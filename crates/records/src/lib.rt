@@ -10,7 +10,7 @@ ghost use mathlib.Core.List.{[], _∷_, _++_};
 ghost use Prim.Native.Nat.{_+_, _-_, _%_, _^_, _≤_, _<_};
 ghost use lib.Dec.{eqb, ltb};
 ghost use lib.ListN.{length, take, getD, set};
-ghost use Rattle.bsmp.specs.Base.{some, every};
+ghost use Rattle.bsmp.specs.Base.{some, every, within};
 ghost use Rattle.bsmp.specs.Codes.{kindOf};
 ghost use Rattle.bsmp.specs.Store.{held};
 ghost use Rattle.bsmp.specs.Board.{isType, blankCurve, blankFunction, fitsKind, usableVariable, usableCurve, usableCurves, usableFunctions, usableGroups, layout, usable};
@@ -46,14 +46,17 @@ impl Total {
 }
 
 // The rules of a record are tested without branches, so that the compiler can test many records at once.
+// Of a size of 1 to 127, whether it is one of a number's: 1, 2, 4 and 8 have one bit, which is one of the low four.
 fn fits_number(size: u8) -> bool
-    ensures { λ r. ⌜ r ≡ some (eqb size) (1 ∷ 2 ∷ 4 ∷ 8 ∷ []) ⌝ }
+    ensures { λ r. ⌜ (within 1 127 size ≡ true → r ≡ some (eqb size) (1 ∷ 2 ∷ 4 ∷ 8 ∷ [])) ⌝ }
 {
-    (size == 1) | (size == 2) | (size == 4) | (size == 8)
+    let less = (size | 0x80) - 1;
+    size & (less | 0x70) == 0
 }
 
+// Of a size of 1 to 127, whether it fits the kind.
 fn fits_kind(size: u8, kind: u8) -> bool
-    ensures { λ r. ⌜ r ≡ fitsKind size (kindOf kind) ⌝ }
+    ensures { λ r. ⌜ (within 1 127 size ≡ true → r ≡ fitsKind size (kindOf kind)) ⌝ }
 {
     (kind == 0) | ((kind <= 4) & fits_number(size))
 }
@@ -260,12 +263,9 @@ pub fn usable_curves(curves: &[u32]) -> Total
     if 24 < n {
         return Total::REFUSED;
     }
-    if n % 3 != 0 {
-        return Total::REFUSED;
-    }
     let mut bytes: u32 = 0;
     let mut i = 0;
-    while i < n {
+    while i + 2 < n {
         let c = Curve {
             writable: curves[i],
             size: curves[i + 1],
@@ -276,6 +276,9 @@ pub fn usable_curves(curves: &[u32]) -> Total
         }
         bytes += c.size * c.blocks;
         i += 3;
+    }
+    if i != n {
+        return Total::REFUSED;
     }
     if 65536 < bytes {
         return Total::REFUSED;

@@ -5,4 +5,4 @@ use Rattle.records.proofs.fits_kind.Statement.{statement}
 use Rattle.records.proofs.fits_kind.Tie as tie
 
 pub fits-kind-spec : {M : Type 1} → statement M
-fits-kind-spec = tie.close (tie.spec (λ c κs. search needs) (λ c. fits-told _ _ _ (c .fits-number .ensures)))
+fits-kind-spec = tie.close (tie.spec (λ c κs. search needs) (λ c u. fits-told _ _ _ (c .fits-number .ensures u)))

@@ -2,7 +2,7 @@
 use Prim.Native.Nat.{_-_}
 use borrow.Author.Needs.{needs}
 use Rattle.records.proofs.Checks.{refused-total, curves-large}
-use Rattle.records.proofs.Thirds.{Stepped, stepped-start, curves-over, curves-cut, stepped-stop, stepped-next, stepped-mul, stepped-fits, stepped-sum, stepped-end}
+use Rattle.records.proofs.Thirds.{Stepped, stepped-start, stepped-index, curves-over, curves-cut, stepped-stop, stepped-next, stepped-mul, stepped-fits, stepped-sum, stepped-end}
 use Rattle.records.proofs.usable_curves.Statement.{statement}
 use Rattle.records.proofs.usable_curves.Tie as tie
 
@@ -19,8 +19,8 @@ usable-curves-spec =
     Inv-loop
     μ-loop
     (λ c. search (refused-total, curves-over, needs))
-    (λ c. search (refused-total, curves-cut, needs))
     (λ c. search (stepped-start, needs))
+    (λ c. search (stepped-index, needs))
     (λ c. search needs)
     (λ c. search needs)
     (λ c. search needs)
@@ -36,5 +36,6 @@ usable-curves-spec =
     (λ c. search needs)
     (λ c. search needs)
     (λ c. search (stepped-next, needs))
+    (λ c. search (refused-total, curves-cut, needs))
     (λ c. search (refused-total, curves-large, stepped-sum, needs))
     (λ c. search (stepped-end, needs)))
