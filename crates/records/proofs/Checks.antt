@@ -160,10 +160,13 @@ module _ (vs : List Variable) where
   unfolding usableVariables
   variables-large n e h = all-off (variableRules vs) 2 (rw (← e) (lt-leb n 4096 h))
 
+  pub variables-pass : (k n : ℕ) → k ≡ length vs → 1 ≤ k → k ≤ 64 → every usableVariable vs ≡ true → n ≡ sum (sizesOf vs) → n ≤ 4096 → usableVariables vs ≡ true
+  unfolding usableVariables
+  variables-pass k n q a b h e l = rw (← q, le-leb 1 k a, le-leb k 64 b, h, ← e, le-leb n 4096 l)
+
   pub variables-taken : (k n : ℕ) → k ≡ length vs → 1 ≤ k → k ≤ 64 → every usableVariable vs ≡ true → n ≡ sum (sizesOf vs) → n ≤ 4096
       → record { usable = true; bytes = n } ≡ variablesTotal vs
-  unfolding usableVariables
-  variables-taken k n q a b h e l = taken-total (usableVariables vs) n (sum (sizesOf vs)) (rw (← q, le-leb 1 k a, le-leb k 64 b, h, ← e, le-leb n 4096 l)) e
+  variables-taken k n q a b h e l = taken-total (usableVariables vs) n (sum (sizesOf vs)) (variables-pass k n q a b h e l) e
 
 -- curves
 module _ (cs : List Curve) where

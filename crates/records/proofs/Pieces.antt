@@ -5,6 +5,7 @@ use mathlib.Core.List.{List, [], _∷_, _++_, map}
 use Prim.Native.Nat.{ℕ, zero, suc, _+_, _-_, _%_, _≤_, _<_}
 use native.Mathlib.Omega.{arith}
 use native.Mathlib.Numerals.{add-one}
+use lib.Dec.{eqb}
 use lib.ListN.{length, take}
 use borrow.Author.Tests.{not-true, not-false}
 use Rattle.bsmp.specs.Base.{sum, upFrom, every}
@@ -12,9 +13,9 @@ use Rattle.bsmp.specs.Board.{sizesOf, usableVariable, usableVariables}
 use Rattle.bsmp.specs.declared.Variable.{Variable}
 use Rattle.records.specs.declared.Records.{Records}
 use Rattle.records.specs.Lending.{recordsBy, recordAt, recordsOf}
-use Rattle.records.specs.Checks.{usableFrom, variablesTotal}
+use Rattle.records.specs.Checks.{usableFrom}
 use Rattle.records.proofs.Lending.{record-count, sizes-lent}
-use Rattle.records.proofs.Checks.{refused-total, variables-broken, variables-large, variables-taken}
+use Rattle.records.proofs.Checks.{variables-few, variables-many, variables-broken, variables-large, variables-pass}
 
 -- numbers in two parts
 every-join : (f : ℕ → Bool) (k m n : ℕ) → every f (upFrom k (m + n)) ≡ (every f (upFrom k m) && every f (upFrom (k + m) n))
@@ -119,41 +120,49 @@ module _ (ws ss ks : List ℕ) where
 pub whole-inside : (n : ℕ) → n - n % 16 ≤ n
 whole-inside n = omega arith
 
-module _ (count : ℕ) (ws ss ks : List ℕ) where
+module _ (count : ℕ) (ws ss ks : List ℕ) (stored : ℕ) where
   abbrev vs : List Variable
   vs = recordsOf (recordsBy count ws ss ks)
+
+  abbrev fit : Bool
+  fit = usableVariables vs && eqb (sum (sizesOf vs)) stored
 
   each : every usableVariable vs ≡ usableFrom ws ss ks 0 count
   unfolding recordsOf usableFrom
   each = every-map usableVariable (recordAt (recordsBy count ws ss ks)) (upFrom 0 count)
 
-  abbrev Refused : Type 0
-  Refused = record { usable = false; bytes = 0 } ≡ variablesTotal vs
+  unusable : usableVariables vs ≡ false → false ≡ fit
+  unusable h = rw h
 
-  broken : every usableVariable vs ≡ false → Refused
-  broken h = refused-total (usableVariables vs) _ (variables-broken vs h)
+  pub few-refused : count < 1 → false ≡ fit
+  few-refused h = unusable (variables-few vs count (record-count (recordsBy count ws ss ks)) h)
+
+  pub many-refused : 64 < count → false ≡ fit
+  many-refused h = unusable (variables-many vs count (record-count (recordsBy count ws ss ks)) h)
 
   summed : (n : ℕ) → n ≡ sum (take count ss) → count ≤ length ss → n ≡ sum (sizesOf vs)
   summed n f l = f ∙ ap sum (sym (sizes-lent (recordsBy count ws ss ks) l))
 
-  pub large-refused : (n : ℕ) → n ≡ sum (take count ss) → count ≤ length ss → 4096 < n → Refused
-  large-refused n f l t = refused-total (usableVariables vs) _ (variables-large vs n (summed n f l) t)
+  pub large-refused : (n : ℕ) → n ≡ sum (take count ss) → count ≤ length ss → 4096 < n → false ≡ fit
+  large-refused n f l t = unusable (variables-large vs n (summed n f l) t)
 
-  pub quick-taken : (n : ℕ) → n ≡ sum (take count ss) → count ≤ length ss → n ≤ 4096 → 1 ≤ count → count ≤ 64 → every usableVariable vs ≡ true
-      → record { usable = true; bytes = n } ≡ variablesTotal vs
-  quick-taken n f l z x y h = variables-taken vs count n (record-count (recordsBy count ws ss ks)) x y h (summed n f l) z
+  pub quick-taken : (n : ℕ) → n ≡ sum (take count ss) → count ≤ length ss → n ≤ 4096 → 1 ≤ count → count ≤ 64 → every usableVariable vs ≡ true → eqb n stored ≡ fit
+  quick-taken n f l z x y h = rw (variables-pass vs count n (record-count (recordsBy count ws ss ks)) x y h (summed n f l) z, ← summed n f l)
 
   module _ (whole : ℕ) where
     parts : whole ≤ count → every usableVariable vs ≡ (usableFrom ws ss ks 0 whole && usableFrom ws ss ks whole (count - whole))
-    parts h = let o : count ≡ whole + (count - whole) = omega arith in let z : 0 + whole ≡ whole = omega arith in each ∙ ap (usableFrom ws ss ks 0) o ∙ rw z at (join ws ss ks 0 whole (count - whole))
+    parts h =
+        let o : count ≡ whole + (count - whole) = omega arith in
+        let z : 0 + whole ≡ whole = omega arith in
+        each ∙ ap (usableFrom ws ss ks 0) o ∙ rw z at (join ws ss ks 0 whole (count - whole))
 
     module _ (a : Bool) (d : a ≡ usableFrom ws ss ks 0 whole) (h : whole ≤ count) where
-      pub pieces-refused : not a ≡ true → Refused
-      pieces-refused t = broken (parts h ∙ rw (← d, not-true a t))
+      pub pieces-refused : not a ≡ true → false ≡ fit
+      pieces-refused t = unusable (variables-broken vs (parts h ∙ rw (← d, not-true a t)))
 
       module _ (b : Bool) (s : not a ≡ false) (e : b ≡ usableFrom ws ss ks whole (count - whole)) where
-        pub rest-refused : not b ≡ true → Refused
-        rest-refused t = broken (parts h ∙ rw (← d, not-false a s, ← e, not-true b t))
+        pub rest-refused : not b ≡ true → false ≡ fit
+        rest-refused t = unusable (variables-broken vs (parts h ∙ rw (← d, not-false a s, ← e, not-true b t)))
 
         pub all-pass : not b ≡ false → every usableVariable vs ≡ true
         all-pass t = parts h ∙ rw (← d, not-false a s, ← e, not-false b t)

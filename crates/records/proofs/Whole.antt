@@ -1,14 +1,15 @@
 -- The whole board's rules as the code meets them, and what the checks' answers tell. Assumes nothing.
-use mathlib.Core.Path.{_≡_, sym, ap, _∙_}
-use mathlib.Core.Bool.{Bool, true, false, not, false≢true}
+use mathlib.Core.Path.{_≡_, refl, sym, ap, _∙_}
+use mathlib.Core.Bool.{Bool, true, false, not, _&&_, false≢true}
 use mathlib.Core.List.{List}
 use Prim.Native.Nat.{ℕ, _≤_}
 use lib.ListN.{length, take}
-use borrow.Author.Tests.{not-true, not-false}
+use lib.Dec.{eqb}
+use borrow.Author.Tests.{not-true, not-false, eq-eqb, eqb-true}
 use Rattle.bsmp.specs.Base.{sum}
-use Rattle.bsmp.specs.Board.{Table, layout, blockSizes, usableFunctions, usableGroups, usable}
+use Rattle.bsmp.specs.Board.{Table, layout, sizesOf, blockSizes, usableVariables, usableFunctions, usableGroups, usable}
 use Rattle.bsmp.specs.Store.{Lent, held}
-use Rattle.bsmp.proofs.Bools.{not-so}
+use Rattle.bsmp.proofs.Bools.{and-true, not-so}
 use Rattle.bsmp.proofs.Store.{curve-bytes}
 use Rattle.records.specs.declared.Records.{Records}
 use Rattle.records.specs.declared.Groups.{Groups}
@@ -68,21 +69,41 @@ module _ (r : Records) (cs fs vs bs : List ℕ) (g : Groups) where
   board-functions b e h = refused (λ s. unless _ _ e h (s .functions))
 
   -- the groups' check goes by the number of records
-  pub board-groups : (c d : Total) (a b : Bool) → c ≡ variablesTotal (recordsOf r) → not (c .usable) ≡ false → c .bytes ≡ length vs
-      → d ≡ curvesTotal (curvesOf cs) → not (d .usable) ≡ false → d .bytes ≡ length bs
-      → a ≡ usableFunctions (functionsOf fs) → not a ≡ false → b ≡ usableGroups (r .count) (groupsOf g) → b ≡ whole
-  board-groups c d a b ec hc vc ed hd vd ea ha eb = by b (eb ∙ ap (λ n. usableGroups n (groupsOf g)) (record-count r))
-    where
-      by : (b : Bool) → b ≡ usableGroups (length (recordsOf r)) (groupsOf g) → b ≡ whole
-      by true e = sym (sound-usable table lending (record {
-        variables = sym (total-usable _ _ c ec) ∙ not-false _ hc;
-        values = sym vc ∙ total-bytes _ _ c ec (not-false _ hc);
-        curves = sym (total-usable _ _ d ed) ∙ not-false _ hd;
-        blocks = sym vd ∙ curve-total d ed hd;
-        functions = sym ea ∙ not-false a ha;
-        groups = sym e;
-      }))
-      by false e = refused (λ s. false≢true (e ∙ s .groups))
+  counted : (b : Bool) → b ≡ usableGroups (r .count) (groupsOf g) → b ≡ usableGroups (length (recordsOf r)) (groupsOf g)
+  counted b e = e ∙ ap (λ n. usableGroups n (groupsOf g)) (record-count r)
+
+  pub board-groups : (b : Bool) → b ≡ usableGroups (r .count) (groupsOf g) → not b ≡ true → false ≡ whole
+  board-groups b e h = refused (λ s. unless _ _ (counted b e) h (s .groups))
+
+  -- so all comes to the last of the tests
+  last : (b : Bool) → (b ≡ true → Sound table lending) → (b ≡ false → Sound table lending → ⊥) → b ≡ whole
+  last true so never = sym (sound-usable table lending (so refl))
+  last false so never = refused (never refl)
+
+  module _ (d : Total) (a b : Bool) (ed : d ≡ curvesTotal (curvesOf cs)) (hd : not (d .usable) ≡ false) (vd : d .bytes ≡ length bs)
+      (ea : a ≡ usableFunctions (functionsOf fs)) (eb : b ≡ usableGroups (r .count) (groupsOf g)) where
+    sound : usableVariables (recordsOf r) ≡ true → length vs ≡ sum (sizesOf (recordsOf r)) → a ≡ true → b ≡ true → Sound table lending
+    sound hv vv ha hb = record {
+      variables = hv;
+      values = vv;
+      curves = sym (total-usable _ _ d ed) ∙ not-false _ hd;
+      blocks = sym vd ∙ curve-total d ed hd;
+      functions = sym ea ∙ ha;
+      groups = sym (counted b eb) ∙ hb;
+    }
+
+    pub board-walked : (c : Total) → c ≡ variablesTotal (recordsOf r) → not (c .usable) ≡ false → c .bytes ≡ length vs → not a ≡ false → b ≡ whole
+    board-walked c ec hc vc ha =
+        let u = not-false _ hc in
+        last b (sound (sym (total-usable _ _ c ec) ∙ u) (sym vc ∙ total-bytes _ _ c ec u) (not-false a ha)) (λ h s. false≢true (sym h ∙ counted b eb ∙ s .groups))
+
+    pub board-quick : (c : Bool) → c ≡ (usableVariables (recordsOf r) && eqb (sum (sizesOf (recordsOf r))) (length vs)) → not c ≡ false → not b ≡ false → a ≡ whole
+    board-quick c ec hc hb =
+        let w = and-true (usableVariables (recordsOf r)) _ (sym ec ∙ not-false c hc) in
+        last a (λ h. sound (w .0) (sym (eqb-true _ _ (w .1))) h (not-false b hb)) (λ h s. false≢true (sym h ∙ ea ∙ s .functions))
+
+  pub board-own : (c : Bool) → c ≡ (usableVariables (recordsOf r) && eqb (sum (sizesOf (recordsOf r))) (length vs)) → not c ≡ true → false ≡ whole
+  board-own c e h = refused (λ s. unless c _ e h (rw (s .variables, s .values) (eq-eqb (sum (sizesOf (recordsOf r))) (sum (sizesOf (recordsOf r))) refl)))
 
 -- what messages look at, from the columns of sizes and types
 pub layout-lent : (r : Records) (cs fs : List ℕ) → r .count ≤ length (r .sizes) → r .count ≤ length (r .writable)

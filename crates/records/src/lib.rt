@@ -10,10 +10,10 @@ ghost use mathlib.Core.List.{[], _∷_, _++_};
 ghost use Prim.Native.Nat.{_+_, _-_, _%_, _^_, _≤_, _<_};
 ghost use lib.Dec.{eqb, ltb};
 ghost use lib.ListN.{length, take, getD, set};
-ghost use Rattle.bsmp.specs.Base.{some, every, within};
+ghost use Rattle.bsmp.specs.Base.{sum, some, every, within};
 ghost use Rattle.bsmp.specs.Codes.{kindOf};
 ghost use Rattle.bsmp.specs.Store.{held};
-ghost use Rattle.bsmp.specs.Board.{isType, blankCurve, blankFunction, fitsKind, usableVariable, usableCurve, usableCurves, usableFunctions, usableGroups, layout, usable};
+ghost use Rattle.bsmp.specs.Board.{isType, sizesOf, blankCurve, blankFunction, fitsKind, usableVariable, usableVariables, usableCurve, usableCurves, usableFunctions, usableGroups, layout, usable};
 ghost use Rattle.records.specs.Lending.{recordsBy, recordsOf, writableMarks, curvesOf, functionsOf, groupsOf, tableOf, lent};
 ghost use Rattle.records.specs.Checks.{variablesTotal, usableFrom, curveBytes, curvesTotal};
 
@@ -167,31 +167,35 @@ fn usable_rest(
     true
 }
 
-// The same as `usable_records`, for packets, which come often: records in pieces, and what is left of them one by one.
-fn quick_records(count: usize, writable: &[u8; 64], sizes: &[u8; 64], kinds: &[u8; 64]) -> Total
-    ensures { λ r. ⌜ r ≡ variablesTotal (recordsOf (recordsBy count (now (writable .entry)) (now (sizes .entry)) (now (kinds .entry)))) ⌝ }
+// Whether the variable records break no rule and add up to so many bytes, for packets, which come often: in pieces, and what is left one by one.
+fn quick_variables(
+    count: usize,
+    writable: &[u8; 64],
+    sizes: &[u8; 64],
+    kinds: &[u8; 64],
+    stored: usize,
+) -> bool
+    ensures { λ r. let vs = recordsOf (recordsBy count (now (writable .entry)) (now (sizes .entry)) (now (kinds .entry))) in
+        ⌜ r ≡ (usableVariables vs && eqb (sum (sizesOf vs)) stored) ⌝ }
 {
     if count < 1 {
-        return Total::REFUSED;
+        return false;
     }
     if 64 < count {
-        return Total::REFUSED;
+        return false;
     }
     let whole = count - count % 16;
     if !usable_pieces(whole, writable, sizes, kinds) {
-        return Total::REFUSED;
+        return false;
     }
     if !usable_rest(whole, count, writable, sizes, kinds) {
-        return Total::REFUSED;
+        return false;
     }
     let bytes = lists::offset(sizes, count);
     if 4096 < bytes {
-        return Total::REFUSED;
+        return false;
     }
-    Total {
-        usable: true,
-        bytes: bytes as u32,
-    }
+    bytes == stored
 }
 
 // The writable variables as marks, by their types.
@@ -337,10 +341,10 @@ pub fn usable_functions(functions: &[u8]) -> bool
     ensures { λ r. ⌜ r ≡ usableFunctions (functionsOf (now (functions .entry))) ⌝ }
 {
     let n = functions.len();
-    if 32 < n {
+    if n % 2 == 1 {
         return false;
     }
-    if n % 2 == 1 {
+    if 32 < n {
         return false;
     }
     let mut bits: u8 = 0;
@@ -458,11 +462,7 @@ pub fn quick_board(
         let t = tableOf records (now (curves .entry)) (now (functions .entry)) in
         ⌜ r ≡ usable t (held (layout t) (lent (now (values .entry)) (now (blocks .entry)) (groupsOf groups))) ⌝ }
 {
-    let variables_total = quick_records(count, writable, sizes, kinds);
-    if !variables_total.usable {
-        return false;
-    }
-    if variables_total.bytes as usize != values.len() {
+    if !quick_variables(count, writable, sizes, kinds, values.len()) {
         return false;
     }
     let curves_total = usable_curves(curves);
@@ -472,8 +472,8 @@ pub fn quick_board(
     if curves_total.bytes as usize != blocks.len() {
         return false;
     }
-    if !usable_functions(functions) {
+    if !usable_groups(groups, count) {
         return false;
     }
-    usable_groups(groups, count)
+    usable_functions(functions)
 }

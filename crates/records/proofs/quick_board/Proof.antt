@@ -1,6 +1,6 @@
 -- `quick_board` meets its contract. Assumes nothing.
 use borrow.Author.Needs.{needs}
-use Rattle.records.proofs.Whole.{board-variables, board-values, board-curves, board-blocks, board-functions, board-groups}
+use Rattle.records.proofs.Whole.{board-own, board-curves, board-blocks, board-groups, board-quick}
 use Rattle.records.proofs.quick_board.Statement.{statement}
 use Rattle.records.proofs.quick_board.Tie as tie
 
@@ -9,14 +9,12 @@ quick-board-spec =
     tie.close
     (tie.spec
     (λ c κs. search needs)
-    (λ c. search (board-variables, needs))
-    (λ c. search needs)
-    (λ c. search (board-values, needs))
+    (λ c. search (board-own, needs))
     (λ c κs. search needs)
     (λ c. search (board-curves, needs))
     (λ c. search needs)
     (λ c. search (board-blocks, needs))
     (λ c κs. search needs)
-    (λ c. search (board-functions, needs))
+    (λ c. search (board-groups, needs))
     (λ c κs. search needs)
-    (λ c. search (board-groups, needs)))
+    (λ c. search (board-quick, needs)))

@@ -1,6 +1,6 @@
 -- `usable_board` meets its contract. Assumes nothing.
 use borrow.Author.Needs.{needs}
-use Rattle.records.proofs.Whole.{board-variables, board-values, board-curves, board-blocks, board-functions, board-groups}
+use Rattle.records.proofs.Whole.{board-variables, board-values, board-curves, board-blocks, board-functions, board-walked}
 use Rattle.records.proofs.usable_board.Statement.{statement}
 use Rattle.records.proofs.usable_board.Tie as tie
 
@@ -19,4 +19,4 @@ usable-board-spec =
     (λ c κs. search needs)
     (λ c. search (board-functions, needs))
     (λ c κs. search needs)
-    (λ c. search (board-groups, needs)))
+    (λ c. search (board-walked, needs)))

@@ -17,8 +17,8 @@ usable-functions-spec =
     (tie.spec
     Inv-loop
     μ-loop
-    (λ c. search (functions-many, needs))
     (λ c. search (functions-odd, needs))
+    (λ c. search (functions-many, needs))
     (λ c. search (joined-start, needs))
     (λ c. search needs)
     (λ c. search needs)
