@@ -36,7 +36,7 @@
 /* The version of this header with its library; .ci/checks/version holds the Rust face's and the suite's to it. And the version of
  * the protocol, as the node answers it to command 00. */
 #define BSMP_VERSION_MAJOR 0
-#define BSMP_VERSION_MINOR 1
+#define BSMP_VERSION_MINOR 2
 #define BSMP_VERSION_PATCH 0
 #define BSMP_VERSION (10000 * BSMP_VERSION_MAJOR + 100 * BSMP_VERSION_MINOR + BSMP_VERSION_PATCH) /* for #if */
 #define BSMP_PROTOCOL_MAJOR 2

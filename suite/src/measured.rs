@@ -34,6 +34,7 @@ fn on_small_boards() -> Vec<Measured> {
     let mut bad_checksum = measured("bad checksum, board A", &a, 0x10, &[1]);
     bad_checksum.request[5] ^= 1;
     vec![
+        measured("version, board A", &a, 0x00, &[]),
         measured("read of a variable, board A", &a, 0x10, &[1]),
         measured("write of a variable, board A", &a, 0x20, &[1, 0x66]),
         measured("read of a group of 3", &a, 0x12, &[0]),
@@ -49,8 +50,11 @@ fn on_small_boards() -> Vec<Measured> {
 
 fn on_full_boards() -> Vec<Measured> {
     let full = full_board();
-    let block = [&[0, 0, 15], &[0x66; 4096][..]].concat();
+    let block = [&[0, 0, 1], &[0x66; 4096][..]].concat();
     let group = [&[0], &[0x66; 64 * 4][..]].concat();
+    let mut half = full.clone();
+    half.groups.sets[0] = u64::MAX / 3;
+    let half_group = [&[3], &[0x66; 32 * 4][..]].concat();
     let mut unusable = measured("unusable board, in variable 63", &full, 0x10, &[63]);
     unusable.lent.variables[63].size = 0;
     vec![
@@ -58,18 +62,10 @@ fn on_full_boards() -> Vec<Measured> {
         measured("write of variable 63", &full, 0x20, &[63, 1, 2, 3, 4]),
         measured("read of a group of 64", &full, 0x12, &[0]),
         measured("write of a group of 64", &full, 0x22, &group),
-        measured(
-            "read of a block of 4,096 bytes",
-            &curve_board(),
-            0x40,
-            &[0, 0, 15],
-        ),
-        measured(
-            "write of a block of 4,096 bytes",
-            &curve_board(),
-            0x41,
-            &block,
-        ),
+        measured("read of every other of 64", &half, 0x12, &[3]),
+        measured("write of every other of 64", &half, 0x22, &half_group),
+        measured("read of a block of 4,096 bytes", &full, 0x40, &[0, 0, 1]),
+        measured("write of a block of 4,096 bytes", &full, 0x41, &block),
         measured("version", &full, 0x00, &[]),
         measured("list of variables", &full, 0x02, &[]),
         measured("list of groups", &full, 0x04, &[]),
@@ -80,11 +76,11 @@ fn on_full_boards() -> Vec<Measured> {
     ]
 }
 
-// As many records of each sort as a board may have, all small.
+// As many records of each sort as a board may have, and as many bytes of curves.
 fn full_board() -> Lent {
     let mut lent = Lent {
         variables: vec![Variable::writable(4, Kind::UnsignedBig); 64],
-        curves: Curve::numbers(&[Curve::writable(4, 2); 8]).to_vec(),
+        curves: Curve::numbers(&[Curve::writable(4096, 2); 8]).to_vec(),
         functions: [1, 2].repeat(16),
         groups: Groups {
             count: 5,
@@ -97,13 +93,6 @@ fn full_board() -> Lent {
         values: Vec::new(),
         blocks: Vec::new(),
     };
-    lent.refit();
-    lent
-}
-
-fn curve_board() -> Lent {
-    let mut lent = board_a();
-    lent.curves = Curve::numbers(&[Curve::writable(4096, 16)]).to_vec();
     lent.refit();
     lent
 }

@@ -34,6 +34,7 @@ pub enum Ran {
 
 /// Carries out one packet; refusals 1 to 6.
 #[allow(clippy::too_many_arguments)]
+#[inline(never)] // so that tools/packet-speed can count what it costs
 pub fn packet(
     table: &Table,
     groups: &mut Groups,
