@@ -2,12 +2,13 @@
 use mathlib.Core.Path.{_≡_, refl, sym, _∙_}
 use mathlib.Core.Bool.{Bool, true, false, not}
 use mathlib.Core.List.{List, map}
-use Prim.Native.Nat.{ℕ, zero, suc, _+_, _*_, _%_, _^_, _≤_, _<_}
+use Prim.Native.Nat.{ℕ, zero, suc, _+_, _-_, _*_, _^_, _≤_, _<_}
 use native.Mathlib.Omega.{arith}
 use native.Mathlib.Numerals.{add-one}
-use native.Mathlib.Nat.{mod-eq-of-lt, zero-mul, one-mul, pow-le-pow-right, two-pow-succ}
+use native.Mathlib.Nat.{pow-le-pow-right, two-pow-succ}
 use lib.Dec.{lit<}
-use lib.ListN.{length, drop, getD}
+use lib.ListN.{length, drop, getD, length-map, length-drop, drop-of-length-le}
+use lib.Seq.{drop-cons}
 use mir.Syntax.{w32, w64}
 use mir.Val.{Fits}
 use borrow.Author.Tests.{leb-true, not-false}
@@ -18,7 +19,8 @@ use Rattle.records.specs.declared.Records.{Records}
 use Rattle.records.specs.Lending.{recordsBy, recordAt, recordsOf, writableMarks}
 use Rattle.records.specs.Checks.{variablesTotal}
 use Rattle.bsmp.proofs.Lists.{every-at}
-use Rattle.records.proofs.Walk.{Walked, walked-start, walked-next, walked-stop, walked-end, sum-next, sum-end, marks-next, marks-end}
+use Rattle.bsmp.proofs.Marks.{marks-below}
+use Rattle.records.proofs.Walk.{Walked, walked-start, walked-next, walked-stop, walked-end, sum-next, sum-end}
 use Rattle.records.proofs.Lending.{noVariable, record-count, record-at}
 use Rattle.records.proofs.Checks.{variable-rules, variables-taken, variables-broken}
 
@@ -65,48 +67,51 @@ module _ (count : ℕ) (ws ss ks : List ℕ) where
       let k = record-count r in
       variables-taken (recordsOf r) count n k a b (walked-end usableVariable (recordsOf r) count i k h (q .walked)) (counted-sum i n h q) l
 
--- at type i: the marks m so far
+-- the marks m of the types from i on
 pub record Marking (ws : List ℕ) (m i : ℕ) : Type 0 where
-  pub marked : m + 2 ^ i * writableMarks (drop i ws) ≡ writableMarks ws
-  pub narrow : m < 2 ^ i
+  pub inside : i ≤ length ws
+  pub marked : m ≡ writableMarks (drop i ws)
 
-pub marking-start : (ws : List ℕ) → Marking ws 0 0
-marking-start ws = record { marked = omega arith; narrow = omega arith }
+pub marking-start : (ws : List ℕ) → Marking ws 0 (length ws)
+marking-start ws = record { inside = omega arith; marked = rw (drop-of-length-le ws {i = length ws} (omega arith)) }
 
-module _ (ws : List ℕ) (i m : ℕ) (few : length ws ≤ 64) (types : every isType ws ≡ true) (h : i < length ws) (q : Marking ws m i) where
-  type : getD ws i 0 ≤ 1
-  type = leb-true _ 1 (every-at isType ws i 0 types h)
+-- the type before i
+module _ (ws : List ℕ) (m i : ℕ) (few : length ws ≤ 64) (types : every isType ws ≡ true) (h : 0 < i) (q : Marking ws m i) where
+  pub marking-within : i - 1 < length ws
+  marking-within = omega (arith, q .inside)
 
-  pub type-fits : Fits w64 (getD ws i 0)
+  type : getD ws (i - 1) 0 ≤ 1
+  type = leb-true _ 1 (every-at isType ws (i - 1) 0 types marking-within)
+
+  pub type-fits : Fits w64 (getD ws (i - 1) 0)
   type-fits = record { fits = omega (arith, type) }
 
-  double : 2 ^ i + 2 ^ i ≤ 2 ^ 64
-  double = let p : suc i ≤ 64 = omega arith in rw (← two-pow-succ i) (pow-le-pow-right (lit< tt) p)
+  small : m + m + 2 ≤ 2 ^ 64
+  small =
+      let l : length (map isWritable (drop i ws)) + 1 ≤ 64 = rw (length-map, length-drop) (omega (arith, q .inside)) in
+      let b = marks-below (map isWritable (drop i ws)) in
+      let p : 2 ^ (length (map isWritable (drop i ws)) + 1) ≤ 2 ^ 64 = pow-le-pow-right (lit< tt) l in
+      omega (arith, q .marked, b, rw (add-one, two-pow-succ) at p)
 
-  -- a type of 0 or 1, moved to its place, is its mark there
-  mark : getD ws i 0 * 2 ^ i % 2 ^ 64 ≡ bit (isWritable (getD ws i 0)) * 2 ^ i
-  mark = by (getD ws i 0) type
+  pub twice-fits : Fits w64 (2 * m)
+  twice-fits = record { fits = omega (arith, small) }
+
+  type-bit : getD ws (i - 1) 0 ≡ bit (isWritable (getD ws (i - 1) 0))
+  type-bit = by (getD ws (i - 1) 0) type
     where
-      by : (w : ℕ) → w ≤ 1 → w * 2 ^ i % 2 ^ 64 ≡ bit (isWritable w) * 2 ^ i
-      by zero k = rw (zero-mul (2 ^ i))
-      by (suc zero) k = mod-eq-of-lt (rw (one-mul (2 ^ i)) (omega (arith, double)))
+      by : (w : ℕ) → w ≤ 1 → w ≡ bit (isWritable w)
+      by zero k = refl
+      by (suc zero) k = refl
       by (suc (suc w)) k = absurd (omega (arith, k))
 
-  mark-small : getD ws i 0 * 2 ^ i % 2 ^ 64 ≤ 2 ^ i
-  mark-small = rw mark (by (isWritable (getD ws i 0)))
-    where
-      by : (w : Bool) → bit w * 2 ^ i ≤ 2 ^ i
-      by true = omega arith
-      by false = omega arith
+  pub marks-fit : Fits w64 (2 * m + getD ws (i - 1) 0)
+  marks-fit = record { fits = omega (arith, small, type) }
 
-  pub marks-fit : Fits w64 (m + getD ws i 0 * 2 ^ i % 2 ^ 64)
-  marks-fit = record { fits = omega (arith, mark-small, double, q .narrow) }
+  pub marking-next : Marking ws (2 * m + getD ws (i - 1) 0) (i - 1)
+  marking-next =
+      let o : suc (i - 1) ≡ i = omega arith in
+      let d = rw o at (drop-cons ws (i - 1) 0 marking-within) in
+      record { inside = omega (arith, q .inside); marked = rw (d, ← q .marked, ← type-bit) (omega arith) }
 
-  pub marking-next : Marking ws (m + getD ws i 0 * 2 ^ i % 2 ^ 64) (i + 1)
-  marking-next = record {
-    marked = marks-next ws (length ws) i (getD ws i 0) 0 refl h refl isWritable m _ _ mark (q .marked);
-    narrow = rw (add-one, two-pow-succ) (omega (arith, mark-small, q .narrow));
-  }
-
-pub marking-end : (ws : List ℕ) (i m : ℕ) → length ws ≤ i → Marking ws m i → m ≡ writableMarks ws
-marking-end ws i m h q = marks-end ws (length ws) i refl h isWritable m _ (q .marked)
+pub marking-end : (ws : List ℕ) (m i : ℕ) → i ≤ 0 → Marking ws m i → m ≡ writableMarks ws
+marking-end ws m i h q = let o : i ≡ 0 = omega arith in q .marked ∙ rw o

@@ -1,16 +1,15 @@
--- Numbered lists, and a walk over a list: what is left of a test, a sum and marks from a place on. Assumes nothing.
+-- Numbered lists, and a walk over a list: what is left of a test and of a sum from a place on. Assumes nothing.
 use mathlib.Core.Path.{_≡_, refl, sym, ap, _∙_}
 use mathlib.Core.Bool.{Bool, true, false, cond, not}
 use mathlib.Core.List.{List, [], _∷_, map}
-use Prim.Native.Nat.{ℕ, zero, suc, _+_, _*_, _^_, _≤_, _<_}
+use Prim.Native.Nat.{ℕ, zero, suc, _+_, _≤_, _<_}
 use native.Mathlib.Omega.{arith}
 use native.Mathlib.Numerals.{add-one}
-use native.Mathlib.Nat.{pow-suc, mul-add, mul-assoc, mul-comm}
 use lib.Dec.{ltb}
 use lib.ListN.{length, drop, getD, drop-of-length-le}
 use lib.Seq.{drop-cons}
 use borrow.Author.Tests.{lt-ltb, le-ltb, not-true, not-false}
-use Rattle.bsmp.specs.Base.{sum, upFrom, every, bit, marksOf}
+use Rattle.bsmp.specs.Base.{sum, upFrom, every}
 use Rattle.records.specs.Lending.{numbered}
 
 -- numbered lists
@@ -69,19 +68,11 @@ module _ {A : Type 0} (f : A → Bool) (xs : List A) (n : ℕ) where
   pub walked-end : (i : ℕ) → n ≡ length xs → n ≤ i → Walked f xs i → every f xs ≡ true
   walked-end i l h w = sym (rw (drop-of-length-le xs {i = i} (omega arith)) at (w .rest))
 
--- a sum, and marks, with what is left of them from i on
+-- a sum, with what is left of it from i on
 module _ {A : Type 0} (xs : List A) (n i : ℕ) (x d : A) (l : n ≡ length xs) (h : i < n) (e : x ≡ getD xs i d) where
   pub sum-next : (g : A → ℕ) (s z y : ℕ) → z ≡ g x → s + sum (map g (drop i xs)) ≡ y → s + z + sum (map g (drop (i + 1) xs)) ≡ y
   unfolding sum
   sum-next g s z y o k = let q = rw (drop-next xs i x d (omega arith) e) at k in omega (arith, q)
-
-  pub marks-next : (w : A → Bool) (m b y : ℕ) → b ≡ bit (w x) * 2 ^ i → m + 2 ^ i * marksOf (map w (drop i xs)) ≡ y → m + b + 2 ^ (i + 1) * marksOf (map w (drop (i + 1) xs)) ≡ y
-  marks-next w m b y z k =
-      let r : ℕ = marksOf (map w (drop (i + 1) xs)) in
-      let q = rw (drop-next xs i x d (omega arith) e) at k in
-      let o : 2 ^ i * (bit (w x) + 2 * r) ≡ b + 2 ^ (i + 1) * r =
-      rw (mul-add, z, add-one, pow-suc, mul-assoc, mul-comm (bit (w x))) in
-      omega (arith, q, o)
 
 module _ {A : Type 0} (xs : List A) (n i : ℕ) (l : n ≡ length xs) (h : n ≤ i) where
   none-left : drop i xs ≡ []
@@ -90,6 +81,3 @@ module _ {A : Type 0} (xs : List A) (n i : ℕ) (l : n ≡ length xs) (h : n ≤
   pub sum-end : (g : A → ℕ) (s y : ℕ) → s + sum (map g (drop i xs)) ≡ y → s ≡ y
   unfolding sum
   sum-end g s y k = let q = rw none-left at k in omega (arith, q)
-
-  pub marks-end : (w : A → Bool) (m y : ℕ) → m + 2 ^ i * marksOf (map w (drop i xs)) ≡ y → m ≡ y
-  marks-end w m y k = let q = rw none-left at k in omega (arith, q)

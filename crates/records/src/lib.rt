@@ -198,16 +198,16 @@ fn quick_variables(
     bytes == stored
 }
 
-// The writable variables as marks, by their types.
+// The writable variables as marks, by their types, from the last to the first.
 pub fn marks_of(types: &[u8]) -> u64
     requires { ⌜ (length (now types) ≤ 64) × (every isType (now types) ≡ true) ⌝ }
     ensures { λ r. ⌜ r ≡ writableMarks (now (types .entry)) ⌝ }
 {
     let mut marks: u64 = 0;
-    let mut i: usize = 0;
-    while i < types.len() {
-        marks += (types[i] as u64) << i;
-        i += 1;
+    let mut i = types.len();
+    while 0 < i {
+        i -= 1;
+        marks = 2 * marks + types[i] as u64;
     }
     marks
 }

@@ -1,8 +1,6 @@
 -- `marks_of` meets its contract: one walk over the types. Assumes nothing.
-use Prim.Native.Nat.{_-_}
-use lib.ListN.{length}
 use borrow.Author.Needs.{needs}
-use Rattle.records.proofs.Counting.{Marking, marking-start, type-fits, marks-fit, marking-next, marking-end}
+use Rattle.records.proofs.Counting.{Marking, marking-start, marking-within, type-fits, twice-fits, marks-fit, marking-next, marking-end}
 use Rattle.records.proofs.marks_of.Statement.{statement}
 use Rattle.records.proofs.marks_of.Tie as tie
 
@@ -10,7 +8,7 @@ abbrev Inv-loop : tie.InvT-loop
 Inv-loop types marks₀ i₀ marks i = Marking types marks i
 
 abbrev μ-loop : tie.MeasureT-loop
-μ-loop types marks₀ i₀ marks i = length types - i
+μ-loop types marks₀ i₀ marks i = i
 
 pub marks-of-spec : {M : Type 1} → statement M
 marks-of-spec =
@@ -20,10 +18,10 @@ marks-of-spec =
     μ-loop
     (λ c. search (marking-start, needs))
     (λ c. search needs)
+    (λ c. search (twice-fits, needs))
+    (λ c. search (marking-within, needs))
     (λ c. search (type-fits, needs))
-    (λ c. search needs)
     (λ c. search (marks-fit, needs))
-    (λ c. search needs)
     (λ c. search needs)
     (λ c. search (marking-next, needs))
     (λ c. search (marking-end, needs)))
