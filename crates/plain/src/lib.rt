@@ -12,7 +12,7 @@ use results::Stored;
 ghost use mathlib.Core.Path.{_≡_};
 ghost use mathlib.Core.Bool.{true, false};
 ghost use lib.IntN.{pos};
-ghost use Rattle.records.specs.Lending.{recordsBy, recordsOf};
+ghost use Rattle.records.specs.Lending.{recordsBy, recordsOf, groupsBy};
 ghost use Rattle.readings.specs.Answers.{signedReadingOf, unsignedReadingOf};
 ghost use Rattle.plain.specs.Lending.{lending};
 ghost use Rattle.plain.specs.Numbers.{plainOutcomeOf, ranFrom, storedNumber, writingNumber, plainReadingOf, signedSays, unsignedSays};
@@ -43,10 +43,10 @@ pub struct PlainUnsignedReading {
     pub number: u64,
 }
 
-// What a packet comes to: how it ends, and the group table.
+// What a packet comes to: how it ends, and how many groups are made then.
 pub struct PlainDone {
     pub outcome: PlainOutcome,
-    pub groups: Groups,
+    pub count: u64,
 }
 
 impl PlainOutcome {
@@ -161,7 +161,8 @@ pub fn packet(
     kinds: &[u8; 64],
     curves: &[u32],
     functions: &[u8],
-    groups: Groups,
+    made: u64,
+    sets: &mut [u64; 5],
     own: u8,
     multicast: u8,
     busy: u64,
@@ -171,8 +172,9 @@ pub fn packet(
     reply: &mut [u8],
 ) -> PlainDone
     ensures { λ r. let records = recordsBy count (now (writable .entry)) (now (sizes .entry)) (now (kinds .entry)) in
+        let groups = groupsBy made (now (sets .entry)) in
         let board = lending (recordsOf records) (now (curves .entry)) (now (functions .entry)) groups (now (values .entry)) (now (blocks .entry)) in
-        ⌜ plainPacketLeft (r .outcome) (r .groups) (now (reply .exit)) (now (values .exit)) (now (blocks .exit))
+        ⌜ plainPacketLeft (r .outcome) (groupsBy (r .count) (now (sets .exit))) (now (reply .exit)) (now (values .exit)) (now (blocks .exit))
         ≡ packetOf board own multicast busy (now (request .entry)) (now (reply .entry)) ⌝ }
 {
     let done = node::packet(
@@ -182,7 +184,8 @@ pub fn packet(
         kinds,
         curves,
         functions,
-        groups,
+        made,
+        sets,
         own,
         multicast,
         busy,
@@ -192,9 +195,11 @@ pub fn packet(
         reply,
     );
     let ending = done.outcome;
-    let groups = done.groups;
     let outcome = outcome_of(ending);
-    PlainDone { outcome, groups }
+    PlainDone {
+        outcome,
+        count: done.count,
+    }
 }
 
 pub fn function_result(
