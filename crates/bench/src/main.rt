@@ -27,7 +27,7 @@ fn variables() -> Records {
 }
 
 // How a packet ended, and the group table after it.
-struct Answered {
+struct Ended {
     outcome: Outcome,
     groups: Groups,
 }
@@ -46,7 +46,7 @@ fn answered(
     values: &mut [u8],
     blocks: &mut [u8],
     reply: &mut [u8],
-) -> Answered {
+) -> Ended {
     let writable = records.writable;
     let sizes = records.sizes;
     let kinds = records.kinds;
@@ -75,7 +75,7 @@ fn answered(
         count: done.count,
         sets,
     };
-    Answered { outcome, groups }
+    Ended { outcome, groups }
 }
 
 // One packet's line at the start of out.
