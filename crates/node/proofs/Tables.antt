@@ -83,8 +83,8 @@ module _ (r : Regroup) (n : ℕ) (ps : List ℕ) (h : Fits r (groupsBy n ps)) wh
   pub group-room : (m : ℕ) → r ≡ Make m → n < 5
   group-room m e = h .room m e
 
-  pub entry-place : (m : ℕ) (e : Entry) → r ≡ Make m → e ≡ entryOf n m → e .place < 5
-  entry-place m e k q = rw q (h .room m k)
+  pub entry-place : (m set : ℕ) (e : Entry) → r ≡ Make m → e ≡ entryOf n set → e .place < 5
+  entry-place m set e k q = rw q (h .room m k)
 
   abbrev after : Groups
   after = tableWith (regrouped r (groupsOf (groupsBy n ps))) (groupsBy n ps)

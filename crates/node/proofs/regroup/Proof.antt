@@ -10,6 +10,6 @@ regroup-spec =
     tie.close
     (tie.spec
     (λ c. search needs) (λ c. search needs) (λ c κs. search (group-room, needs))
-    (λ c. omega (arith, entry-place _ _ _ (c .before .before .before .before .pre) _ _ (c .before .before .r .given .1) (c .create .ensures)))
+    (λ c. omega (arith, entry-place _ _ _ (c .before .before .before .before .pre) _ _ _ (c .before .before .r .given .1) (c .create .ensures)))
     (λ c. search (entry-place, needs)) (λ c. search needs) (λ c κs. search needs)
     (λ c. search (regroup-keep, needs)) (λ c. search (regroup-make, needs)) (λ c. search (regroup-remove, needs)))
