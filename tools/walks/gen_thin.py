@@ -4,18 +4,18 @@
   fn entry(P..) -> OUT {
       let mut c = [0u8; 64];             // one `let` for each column
       let n = TABLE(vars, &mut c..);     // the parameter of kind `records`, a lent slice of structs, stored into the columns
-      let m = state.number; let v = *view;   // one `let` for each `state` (&mut S, S a number and places) and `view` (&S), in the parameters' order
-      let r = work(W..);                 // n, &c.. in the place of vars; m, &mut state.places in the place of state, and v in the place of view; the others as they came
+      let m = state.number;              // one `let` for each `state` (&mut S, S a number and places) and `view` (&S), in the parameters' order
+      let r = work(W..);                 // n, &c.. in the place of vars; m, &mut state.places and &view.places in the place of each; the others as they came
       state.number = r.number;           // one store for each `state`, in the parameters' order
       r.out                              // with no `state`: the body ends in `work(W..)`, and its result is the entry's
   }
 
-The columns are lent twice, as `&mut` and as `&`, and a state's places as `&mut`, each time for lifetimes that the walk makes and ends (the modules lending).
+The columns are lent twice, as `&mut` and as `&`, and the places within a struct, each time for lifetimes that the walk makes and ends (the modules lending).
 Nothing here is trusted: the prover checks what is written. usage: gen_thin.py BOARD.json CRATE/NAME.json > crates/CRATE/proofs/NAME.antt
 BOARD: types {type: the crate that declares it}; table {fn, walk, lending, table, by, count, columns, places, zeros, spec, read, uses}: the type of a table, `by` that makes one of its count and
        columns, with the fields' names; how many places a column has, and how one of zeros is written; `spec` gives the table of the lent records, `read` the records that a table says;
        fn, and the modules walk and lending, with the crate that has them; uses as CRATE:specs.Module.{names}.
-       held {S: {by, number [field, type], places [field, type, how many, offset], lending, uses}}: the type of a state, `by` that makes one of its two fields.
+       held {S: {by, number [field, type], places [field, type, how many, offset], lending, uses}}: the type of a state or view, `by` that makes one of its two fields.
 SHAPE: out [kind, type]; params [[name, kind, type]], kind: records | mut | shr | state | view | int | bool | struct;
        work [the parameters' names in the callee's order] where it is another;
        answer {type, out [field, number], NAME [field, number] of each state's number} where there are states;
@@ -46,11 +46,11 @@ DIRECT = not sts
 tk = [byname[n] for n in S.get("work", [p["name"] for p in P])]
 t = S["table"]
 count = dict(name=t["count"], kind="count"); columns = [dict(name=n, kind="column") for n in t["columns"]]
-for p in sts:
+for p in reads:
     p["held"] = S["held"][p["ty"]]; (f, ty), (g, pty, many, at) = p["held"]["number"], p["held"]["places"]
-    p["number"] = dict(name=f"{p['name']}.{f}", kind="number", ty=ty, field=f, of=p); p["places"] = dict(name=f"{p['name']}.{g}", kind="places", ty=pty, field=g, many=many, at=at, of=p)
-wk = [q for p in tk for q in ([count] + columns if p is rec else [p["number"], p["places"]] if p in sts else [p])]
-lent = [p for p in wk if p["kind"] in ("column", "places", "mut", "shr")]
+    p["number"] = dict(name=f"{p['name']}.{f}", kind="number", ty=ty, field=f, of=p); p["places"] = dict(name=f"{p['name']}.{g}", kind="places" if p in sts else "shown", ty=pty, field=g, many=many, at=at, of=p)
+wk = [q for p in tk for q in ([count] + columns if p is rec else [p["number"], p["places"]] if p in reads else [p])]
+lent = [p for p in wk if p["kind"] in ("column", "places", "shown", "mut", "shr")]
 wrefs = [p for p in wk if p["kind"] in ("mut", "shr")]
 muts = [p for p in wk if p["kind"] == "mut"]; shrs = [p for p in wk if p["kind"] == "shr"]
 plains = [p for p in P if p["kind"] in ("int", "bool", "struct")]
@@ -59,7 +59,7 @@ L = len(refs); NP = len(P)
 loc = {"out": 0}
 for p in P: loc[p["name"]] = p["i"] + 1
 k = NP + 1
-MADE = {"column": ["#b"], "places": ["#a"], "mut": ["#p", "#s"]}; given = [p for p in wk if p["kind"] in MADE]
+MADE = {"column": ["#b"], "places": ["#a"], "shown": ["#a"], "mut": ["#p", "#s"]}; given = [p for p in wk if p["kind"] in MADE]
 for x in ["#c" + p["name"] for p in columns] + ["#n"] + ["#g" + p["name"] for p in reads] + ([] if DIRECT else ["#r"]) + ["#m" + p["name"] for p in columns] + [x + p["name"] for p in given for x in MADE[p["kind"]]]: loc[x] = k; k += 1
 if DIRECT: loc["#r"] = 0
 N = k
@@ -91,7 +91,7 @@ RE = Row("struct", rec["ty"]); RC = Row("int", "usize"); r0 = rec["name"]; rec["
 for p in P:
     if p in plains or p in reads: p["R"] = Row("struct" if p in reads else p["kind"], p["ty"]); p["row"] = p["R"].row
     elif p is not rec: p["row"] = p["ty"]
-for p in sts: p["number"]["R"] = Row("int", p["number"]["ty"])
+for p in reads: p["number"]["R"] = Row("int", p["number"]["ty"])
 a = S.get("answer"); sd = S["said"]
 def says(which, turn, r, lasts): return string.Template(sd.get(which, sd["work"])).substitute(r=r, **lasts) + " ≡ " + turn
 SLOT = {"records": "SliceRefOf", "shr": "SliceRefOf", "mut": "SliceRefMutOf", "state": "RefMutOf", "view": "RefOf"}
@@ -101,7 +101,7 @@ def slot(p, j=None):
 def wslot(p):
     if p is count: return f"plain (λ _. {RC.row})"
     if p in columns: return f"RefOf ({lent.index(p)} ∷ []) tt (ArrayOf (plain (λ _. u8)) (λ _. tt) {t['places']}) (λ _. tt)"
-    if p["kind"] == "places": return f"RefMutOf ({lent.index(p)} ∷ []) tt (ArrayOf (plain (λ _. {p['ty']})) (λ _. tt) {p['many']}) (λ _. tt)"
+    if p["kind"] in ("places", "shown"): return f"{'RefMutOf' if p['kind'] == 'places' else 'RefOf'} ({lent.index(p)} ∷ []) tt (ArrayOf (plain (λ _. {p['ty']})) (λ _. tt) {p['many']}) (λ _. tt)"
     if p["kind"] == "number": return f"plain (λ _. {p['ty']})"
     if p in wrefs: return slot(p, lent.index(p))
     return f"plain (λ _. {p['row']})"
@@ -191,9 +191,9 @@ use denote.Triple.Entry.{Vals, Args, onEntry}
 use denote.Triple.Spec.{Meets, tripleOf}
 use denote.Triple.Walked.{says, needs, Stays, stay-ref, stay-none, stay-none-ref, stay-none-slice, gave-slice, walkOf, AllGo, goes-ref, goes-none, goes-none-ref, goes-none-slice, goes-gave-slice, Walks, ends-at, walked, walk-meets}
 use denote.Exit.{yes}""")
-for u in t["uses"] + sd["uses"] + [u for p in sts for u in p["held"]["uses"]]: w("use " + module(u))
+for u in t["uses"] + sd["uses"] + [u for p in reads for u in p["held"]["uses"]]: w("use " + module(u))
 w("use " + module(t["lending"]) + ".{AreColumns, blanks, blanks-are, blank-typed, Places, places, Loan, Loans, lft, token, ref, byMut, keptMut, last, shared, keptShared, Cells, Tokens, Each, lends-mut, mut-back, lends-shared, shared-back}")
-for p in sts: w("use " + module(p["held"]["lending"]) + ".{AreNumbers, numbersVal, placesRef, lentPlaces, lastPlaces, keptPlaces, lends-places, places-back}")
+for p in reads: w("use " + module(p["held"]["lending"]) + ".{AreNumbers, numbersVal, placesRef, lentPlaces, lastPlaces, keptPlaces, lends-places, places-back, shownPlaces, keptShown, shows-places, shown-back}")
 for d in declared: w(f"use {part_of(crate_of(d), 'specs')}.declared.{d}.{{{d}}}")
 w("use " + module(t["walk"]) + ".{down, span}")
 for d, m in declared.items(): w(f"use {part_of(crate_of(d), 'proofs')}.{d} as {m}"); w(f"use {part_of(crate_of(d), 'proofs')}.{d}.Laws as {m}′")
@@ -209,14 +209,14 @@ COL = f"(tyArray (tyInt w8) {t['places']})"
 ARR = lambda p: f"(tyArray (tyInt {W[p['ty']]}) {p['many']})"
 def temps(p):
     e = f"(tyRef erased mut (tyInt {W[p['ty']]}))" if p in muts else ""
-    return [e, f"(sliceTy {e})"] if e else [f"(tyRef erased imm {COL})"] if p in columns else [f"(tyRef erased mut {ARR(p)})"]
-locs = [RO.mir] + [lty(p) for p in P] + [COL for p in columns] + [RC.mir] + [(p["number"] if p in sts else p)["R"].mir for p in reads] + ([] if DIRECT else [RD.mir])
+    return [e, f"(sliceTy {e})"] if e else [f"(tyRef erased imm {COL})"] if p in columns else [f"(tyRef erased {'mut' if p['kind'] == 'places' else 'imm'} {ARR(p)})"]
+locs = [RO.mir] + [lty(p) for p in P] + [COL for p in columns] + [RC.mir] + [p["number"]["R"].mir for p in reads] + ([] if DIRECT else [RD.mir])
 locs += [f"(tyRef erased mut {COL})" for p in columns] + [x for p in given for x in temps(p)]
 def pl(x, steps=""): return f"(place {loc[x]} ({steps}[]))" if steps else f"(place {loc[x]} [])"
 stm = [f"assign {pl('#c' + p['name'])} (repeat (int w8 0) {t['places']})" for p in columns] + [f"assign {pl('#m' + p['name'])} (addrOf {pl('#c' + p['name'])})" for p in columns]
 targ = [r0] + ["#m" + p["name"] for p in columns]; stm.append(f"call kt ({lst(['copy ' + pl(x) for x in targ])}) {pl('#n')}")
-def behind(p, k=None): return pl(p["name"], "deref " + p["R"].mir + " ∷ " + ("" if k is None else f"field {k} ∷ "))
-for p in reads: stm.append(f"assign {pl('#g' + p['name'])} (rvOpd (copy {behind(p, 0 if p in sts else None)}))")
+def behind(p, k): return pl(p["name"], f"deref {p['R'].mir} ∷ field {k} ∷ ")
+for p in reads: stm.append(f"assign {pl('#g' + p['name'])} (rvOpd (copy {behind(p, 0)}))")
 for p in given:
     n = p["name"]
     if p in columns: stm.append(f"assign {pl('#b' + n)} (addrOf {pl('#c' + n)})")
@@ -226,7 +226,7 @@ for p in given:
     else: stm.append(f"assign {pl('#a' + n)} (addrOf {behind(p['of'], 1)})")
 def arg(p):
     k, n = p["kind"], p["name"]
-    return "#n" if p is count else "#g" + p["of"]["name"] if k == "number" else {"column": "#b", "places": "#a", "view": "#g", "mut": "#s"}.get(k, "") + n
+    return "#n" if p is count else "#g" + p["of"]["name"] if k == "number" else {"column": "#b", "places": "#a", "shown": "#a", "mut": "#s"}.get(k, "") + n
 stm.append(f"call kc ({lst(['copy ' + pl(arg(p)) for p in wk])}) {pl('#r')}")
 for p in sts: stm.append(f"assign {behind(p, 0)} (rvOpd (copy {pl('#r', 'field %d ∷ ' % a[p['name']][1])}))")
 if not DIRECT: stm.append(f"assign {pl('out')} (rvOpd (copy {pl('#r', 'field %d ∷ ' % a['out'][1])}))")
@@ -253,7 +253,7 @@ def ent_arg(p):
 def wk_arg(p): v = f"(a{proj(wk.index(p))})"; return v if p not in lent else f"(now {v})"
 TABLE = f"({t['read']} ({t['by']} {' '.join(wk_arg(p) for p in [count] + columns)}))"
 def held(p, m, xs): return f"({p['held']['by']} {m} {xs})"
-eargs = " ".join(ent_arg(p) for p in tk); wargs = " ".join(TABLE if p is rec else held(p, wk_arg(p["number"]), wk_arg(p["places"])) if p in sts else wk_arg(p) for p in tk)
+eargs = " ".join(ent_arg(p) for p in tk); wargs = " ".join(TABLE if p is rec else held(p, wk_arg(p["number"]), wk_arg(p["places"])) if p in reads else wk_arg(p) for p in tk)
 TO = "turnOf"; TOB = "(turnOf : TurnOf)"; TOT = "TurnOf → "
 elast = {p["name"]: f"(now (e{proj(p['i'])}))" for p in sts + muts}; lasting = [p for p in wk if p in muts or p["kind"] == "places"]
 def whose(p): return (p if p in muts else p["of"])["name"]
@@ -303,34 +303,38 @@ for p in reads:
     if p in sts:
         w(f"  abbrev Bor-{n} : Fml"); w(f"  Bor-{n} = fbor κ-{n} (Body (mem {p['row']}) b-{n} o-{n} γ-{n})"); w()
         w(f"  abbrev Obs-{n} : {p['R'].D} → Fml"); w(f"  Obs-{n} g = fobs γ-{n} ({p['row']} .coded .code g)"); w()
-        w(f"  -- the struct's cell with these fields, and the places within it")
-        w(f"  abbrev Cell-{n} : ℕ → Val → Item 𝓤"); w(f"  Cell-{n} m u = ‵ (fat fullShare (rawTy {p['R'].mir}) b-{n} o-{n} (vstruct (ofList ({p['number']['R'].mach('m')} ∷ u ∷ []))))"); w()
-        w(f"  part-{n} : (m : ℕ) (u : Val) → Part (Go {{0}}) W (Cell-{n} m u) fullShare {ARR(p['places'])} b-{n} (o-{n} + {p['places']['at']}) u (Cell-{n} m)"); w(f"  part-{n} m u = sub ! 1 refl (whole !)"); w()
     else:
         w(f"  abbrev Bor-{n} : Fml"); w(f"  Bor-{n} = fshr-bor κ-{n} (λ s. partAt {p['row']} s h-{n} b-{n} o-{n})"); w()
         w(f"  abbrev Obs-{n} : {p['R'].D} → Fml"); w(f"  Obs-{n} g = fres γ-{n} ({p['row']} .coded .code g)"); w()
+    w(f"  -- a share of the struct's cell with these fields, and the places within it")
+    w(f"  abbrev Cell-{n} : Share → ℕ → Val → Item 𝓤"); w(f"  Cell-{n} q m u = ‵ (fat q (rawTy {p['R'].mir}) b-{n} o-{n} (vstruct (ofList ({p['number']['R'].mach('m')} ∷ u ∷ []))))"); w()
+    w(f"  part-{n} : (q : Share) (m : ℕ) (u : Val) → Part (Go {{0}}) W (Cell-{n} q m u) q {ARR(p['places'])} b-{n} (o-{n} + {p['places']['at']}) u (Cell-{n} q m)"); w(f"  part-{n} q m u = sub ! 1 refl (whole !)"); w()
 tok = lambda p: f"(flft κ-{p['name']} q-{p['name']})"
 fld_of = lambda p: f"(tbl .{p['name']})"; ctok = lambda p: f"(token (ls .{p['name']}))"
-lftof = lambda p: f"lft (ls .{p['name']})" if p in columns else f"lft loan-{p['of']['name']}" if p["kind"] == "places" else "κ-" + p["name"]
+lftof = lambda p: f"lft (ls .{p['name']})" if p in columns else f"lft loan-{p['of']['name']}" if p["kind"] in ("places", "shown") else "κ-" + p["name"]
 def cref(p, x): return f"ref (bs .{p['name']}) (ls .{p['name']}) {x}"
 def cval(p): return f"vptr (bs .{p['name']}) 0"
 # what speaks of the columns takes where they are and their loans: in the lemmas these are bs and ls, in the walk the locals and the loans that are made there
 LS = "(bs : Places) (ls : Loans)"; LEMMA = ("bs", "ls")
 def tokens(at): return f"Tokens 𝓤 H A W {at[0]} {at[1]}"
 def each(what, x, at): return f"Each 𝓤 H A W {at[0]} {what} {x} {at[1]}"
-LOANS = "".join(f" loan-{p['name']}" for p in sts); ALOAN = "".join(f" (loan-{p['name']} : Loan)" for p in sts)
+LOANS = "".join(f" loan-{p['name']}" for p in reads); ALOAN = "".join(f" (loan-{p['name']} : Loan)" for p in reads)
 def to(what, at): return f"(to-{what} {at[0]} {at[1]}{LOANS if what == 'work' else ''})"
 def within(p): q = p["places"]; return f"{W[q['ty']]} {q['many']} b-{p['name']} (o-{p['name']} + {q['at']})"
-def kept_in(p, l): return f"keptPlaces {within(p)} 𝓤 H A W (Cell-{p['name']} (h-{p['name']} .{p['number']['field']})) {l}"
+def share(p): return "fullShare" if p in sts else f"q′-{p['name']}"
+def cell_of(p, m): return f"Cell-{p['name']} {share(p)} {m}"
+def by_law(p): return f"{within(p)} 𝓤 H A W {'' if p in sts else share(p) + ' '}({cell_of(p, of_state(p['number']))})"
+def lent_in(p, l): return f"{'lentPlaces' if p in sts else 'shownPlaces'} {within(p)} {l} {of_state(p['places'])}"
+def kept_in(p, l): return f"keptPlaces {by_law(p)} {l}" if p in sts else f"keptShown {by_law(p)} {l} {of_state(p['places'])}"
 def in_places(p, xs): return f"(numbersVal {W[p['places']['ty']]} {xs})"
 # a struct's own value has each place under a `map` that changes nothing
-def mapped(p, at, m, eq): return f"rewrite ! {at} (λ (xs : List ℕ). Cell-{p['name']} {m} {in_places(p, 'xs')}) {eq} refl"
+def mapped(p, at, m, eq): return f"rewrite ! {at} (λ (xs : List ℕ). {cell_of(p, m)} {in_places(p, 'xs')}) {eq} refl"
 def are_places(p, xs): return f"AreNumbers {W[p['places']['ty']]} {p['places']['many']} {xs}"
 def table_pre(at): return f"TableOf 𝓤 H A at-mem run .pre {to('table', at)}"
 def table_left(at): return f"‵ {tok(rec)} ⊛ {tokens(at)} ⊛ {each('last', 'tbl', at)}"
 def work_pre(at): return f"Work 𝓤 H A {TO} .pre {to('work', at)}"
 def fins(y, p): return f"{y} .1{proj(lasting.index(p))}"
-def work_left(at): return "(" + " ⊛ ".join([tokens(at)] + [x for p in sts for x in (f"‵ (token loan-{p['name']})", f"‵ (lastPlaces {within(p)} loan-{p['name']} ({fins('y', p['places'])}))")] + ["Had y"]) + ")"
+def work_left(at): return "(" + " ⊛ ".join([tokens(at)] + [x for p in reads for x in [f"‵ (token loan-{p['name']})"] + ([f"‵ (lastPlaces {within(p)} loan-{p['name']} ({fins('y', p['places'])}))"] if p in sts else [])] + ["Had y"]) + ")"
 TT = to("table", LEMMA); TPOST = f"TableOf 𝓤 H A at-mem run .post {TT} u"
 lastj = lambda p: f"(ws{proj(1 + columns.index(p))})"
 TFACT = f"{t['by']} r {' '.join(lastj(p) for p in columns)} ≡ tbl"; TOLD = f"(u ≡ {RC.mach(fld_of(count))}) × Counted"
@@ -365,22 +369,22 @@ cx.keep(f"t-{r0}", "lent-tokens", "last"); w(cx.text("done !))))")); w()
 def of_state(p): return f"(h-{p['of']['name']} .{p['field']})"
 def placed(p): n = p["of"]["name"]; return f"b-{n} (o-{n} + {p['at']})"
 def wa(p):
-    if p["kind"] == "places": return f"placesRef {placed(p)} loan-{p['of']['name']} {of_state(p)}"
-    return of_state(p) if p["kind"] == "number" else fld_of(p) if p is count else cref(p, fld_of(p)) if p in columns else f"h-{p['name']}" if p in reads else p["name"]
+    if p["kind"] in ("places", "shown"): return f"placesRef {placed(p)} loan-{p['of']['name']} {of_state(p)}"
+    return of_state(p) if p["kind"] == "number" else fld_of(p) if p is count else cref(p, fld_of(p)) if p in columns else p["name"]
 def wv(p):
-    if p["kind"] == "places": return f"vptr {placed(p)}"
-    return p["R"].mach(of_state(p)) if p["kind"] == "number" else RC.mach(fld_of(p)) if p is count else cval(p) if p in columns else p["R"].mach(f"h-{p['name']}") if p in reads else val(p)
-targs = " ".join(f"({t['read']} tbl)" if p is rec else f"(now {p['name']})" if p in wrefs else wa(p) for p in tk)
-lawargs = " ".join(f"(now {p['name']})" if p in wrefs or p is rec else wa(p) for p in tk)
+    if p["kind"] in ("places", "shown"): return f"vptr {placed(p)}"
+    return p["R"].mach(of_state(p)) if p["kind"] == "number" else RC.mach(fld_of(p)) if p is count else cval(p) if p in columns else val(p)
+given_as = lambda p: f"(now {p['name']})" if p in wrefs or p is rec else f"h-{p['name']}" if p in reads else wa(p)
+targs = " ".join(f"({t['read']} tbl)" if p is rec else given_as(p) for p in tk); lawargs = " ".join(given_as(p) for p in tk)
 w("  -- ---- the work"); w(f"  abbrev turn : {sd['turn']}"); w(f"  turn = turnOf {targs}"); w()
 TW = to("work", LEMMA)
-w(f"  abbrev to-work : Places → Loans → {'Loan → ' * len(sts)}Work 𝓤 H A {TO} .Ghost")
+w(f"  abbrev to-work : Places → Loans → {'Loan → ' * len(reads)}Work 𝓤 H A {TO} .Ghost")
 w(f"  to-work bs ls{LOANS} = (({tup([lftof(p) for p in lent])}, {tup(['q-' + p['name'] if p in wrefs else 'fullShare' for p in lent])}, tt, {tup([wa(p) for p in wk])}, {tup([wv(p) + ' ∷ []' for p in wk])}), tt)"); w()
-plcs = [p["places"] for p in sts]
+plcs = [p["places"] for p in reads]; had_back = [x + p["name"] for p in plcs for x in (("t-", "f-") if p["kind"] == "places" else ("t-",))]
 had0 = ["lent-tokens", "lent-columns"] + [x + p["name"] for p in plcs for x in ("t-", "O-")] + [f"O-{p['name']}" for p in wrefs] + [f"t-{p['name']}" for p in wrefs]
 fm = {"lent-tokens": tokens(LEMMA), "lent-columns": each("shared", "tbl", LEMMA)}
 fm.update({f"O-{p['name']}": f"‵ O-{p['name']}" for p in wrefs}); fm.update({f"t-{p['name']}": f"‵ {tok(p)}" for p in refs})
-for p in plcs: n = p["of"]["name"]; fm.update({f"t-{p['name']}": f"‵ (token loan-{n})", f"O-{p['name']}": f"‵ (lentPlaces {within(p['of'])} loan-{n} {of_state(p)})"})
+for p in plcs: n = p["of"]["name"]; fm.update({f"t-{p['name']}": f"‵ (token loan-{n})", f"O-{p['name']}": f"‵ ({lent_in(p['of'], 'loan-' + n)})"})
 copies = " ⊛ ".join(f"‵ O-{p['name']}" for p in shrs)
 hyps = ["Counted"] + [p["R"].is_(f"h-{p['name']}") for p in reads]
 hnames = ["bs", "ls"] + LOANS.split() + ["counted"] + [f"was-{p['name']}" for p in reads]
@@ -395,7 +399,6 @@ for p in shrs:
     n = p["name"]; cx.move(f"O-{n}"); cx.step(f"use1 W (‵ O-{n} ⊛ ‵ O-{n}) (shr-slice-copy 𝓤 H A W (named {p['lft']}) κ-{n} {p['ty']} .twice {n} (slice {n} ∷ []))"); cx.split(f"O-{n}", f"c-{n}")
 for p in wk:
     if p in plains: cx.owned(p["R"].own(p["name"], f"is-{p['name']}"), f"O-{p['name']}")
-    elif p in reads: cx.owned(p["R"].own(f"h-{p['name']}", f"was-{p['name']}"), f"O-{p['name']}")
     elif p is count: cx.owned(RC.own(fld_of(p), "(refl, counted)"), f"O-{p['name']}")
     elif p["kind"] == "number": cx.owned(p["R"].own(of_state(p), f"({had_field(p)})"), f"O-{p['name']}")
 cx.nothing(); cx.move(*([f"O-{p['name']}" for p in wk] + ["true"])); cx.group(len(wk) + 1, "owns"); cx.nothing()
@@ -422,7 +425,7 @@ w(f"      ⊛ some (λ (ws : Lasts work-ended ({TW} .0 .0) ({TW} .0 .3)). ‵ (l
 w(f"      split ! $ move ! (1 ∷ []) $ pick ! (λ ws. split ! $ move ! (1 ∷ []) $ heard ! ({fct}) (λ e.")
 cx = Cx(["lasts", "tokans"], "      "); par = 3
 for p in wk:
-    if p in plcs: cx.split(f"f-{p['name']}", "lasts", "fsplit"); cx.move("lasts"); continue
+    if p["kind"] == "places": cx.split(f"f-{p['name']}", "lasts", "fsplit"); cx.move("lasts"); continue
     cx.split(f"l-{p['name']}", "lasts", "fsplit")
     if p in muts: cx.split(f"f-{p['name']}", f"e-{p['name']}", "fsplit"); cx.move(f"e-{p['name']}"); cx.step(f"feqL ! (λ len-{p['name']}. ⟪"); cx.c.pop(0); par += 1; cx.move("lasts")
     else: cx.drop()
@@ -430,7 +433,7 @@ cx.drop(); cx.move("tokans").split("toks", "ans"); cx.move("ans"); cx.step(f"fac
 splits(cx, [f"t-{p['name']}" for p in lent] + ["true"]); cx.move(*[f"t-{p['name']}" for p in columns]); cx.group(len(columns), "lent-tokens")
 cx.step("at-once !"); cx.step(f"show ! (λ (y : Ans). guard 𝓤 (Known u y) (mean 𝓤 H A {work_left(LEMMA)})) (r, {tup([wsj(p)[1:-1] for p in lasting])})")
 cx.step(f"check ! (record {{ val = ap only ({RD.tells} r (u ∷ []) is); is = subst (Is {RD.row} r) ({RD.tells} r (u ∷ []) is) is; said = e" + "".join(f"; len-{p['name']} = len-{p['name']}" for p in muts) + " })")
-cx.keep("lent-tokens", *[x + p["name"] for p in plcs for x in ("t-", "f-")], *(hadN or ["true"])); w(cx.text("done !" + ")" * par)); w()
+cx.keep("lent-tokens", *had_back, *(hadN or ["true"])); w(cx.text("done !" + ")" * par)); w()
 def new_number(p): return f"(y .0 .{a[p['name']][0]})"
 fst = {p["name"]: held(p, new_number(p), f"({fins('y', p['places'])})") for p in sts}
 if not DIRECT:
@@ -520,16 +523,17 @@ w(I + f"use1 W (later (given ({TOLD}) ({table_left(FIRST)}))) (told-table {BS} l
 cx.c[0] = "left"; splits(cx, [f"t-{r0}", "lent-tokens", "last"]); comes_back("mut-back", ["lent-tokens", "kept", "last"], FIRST, "are")
 landed("#n", RC, fld_of(count), "(is .0)", "is"); note()
 for p in reads:
-    n = p["name"]; R = p["R"]; m = R.mach(f"h-{n}")
-    def read(steps, cell, typed): cx.step(f"assigns ! (of-opd ! (load ! (from ! (hop ! (look ! {at(n)} refl) ({steps}))) ({cell}))) (from ! (stop !)) (init ! {at('#g' + n)} refl {typed})")
+    n = p["name"]; R = p["R"]; m = R.mach(f"h-{n}"); q = p["number"]
     if p in sts:
         cx.move(f"obs-{n}", f"bor-{n}", f"t-{n}"); flush()
         w(I + f"opens ! tt {R.row} {{h = h-{n}}} b-{n} o-{n} (λ vs-{n}. spelt ! {R.spelt()} fullShare h-{n} vs-{n} b-{n} o-{n} $ move ! (1 ∷ []) $ facts ! {R.sh()} h-{n} ({m} ∷ []) (λ was-{n}."); par += 2
-        cx.c[0:3] = [f"cell-{n}", f"open-{n}", f"obs-{n}", f"auth-{n}"]; back(); q = p["number"]; cx.step(mapped(p, cx.pos(f"cell-{n}"), of_state(q), f"(map-id {of_state(p['places'])})")); read("fld ! refl (stop !)", f"look-in ! {cx.pos('cell-' + n)} (sub ! 0 refl (whole !))", q["R"].typed(of_state(q), f"{had_field(q)}")); flush()
+        cx.c[0:3] = [f"cell-{n}", f"open-{n}", f"obs-{n}", f"auth-{n}"]
     else:
         cx.move(f"bor-{n}", f"t-{n}"); flush()
         w(I + f"looks ! tt {R.spelt()} {R.copy} h-{n} b-{n} o-{n} (λ q′-{n} vs-{n}. spelt ! {R.spelt()} q′-{n} h-{n} vs-{n} b-{n} o-{n} $ move ! (1 ∷ []) $ peeks ! {R.sh()} h-{n} ({m} ∷ []) (λ was-{n}. move ! (1 ∷ 0 ∷ []) $"); par += 2
-        cx.c[0:2] = [f"cell-{n}", f"own-{n}", f"open-{n}", f"bor-{n}"]; read("stop !", f"look-raw ! {cx.pos('cell-' + n)} refl", R.typed(f"h-{n}", f"was-{n}")); cx.step(f"shuts ! tt {R.row} q′-{n} h-{n} ({m} ∷ []) b-{n} o-{n}"); cx.c[0:3] = [f"t-{n}"]; back(); flush()
+        cx.c[0:2] = [f"cell-{n}", f"own-{n}", f"open-{n}", f"bor-{n}"]
+    back(); c = cx.pos(f"cell-{n}"); cx.step(mapped(p, c, of_state(q), f"(map-id {of_state(p['places'])})"))
+    cx.step(f"assigns ! (of-opd ! (load ! (from ! (hop ! (look ! {at(n)} refl) (fld ! refl (stop !)))) (look-in ! {c} (sub ! 0 refl (whole !))))) (from ! (stop !)) (init ! {at('#g' + n)} refl {q['R'].typed(of_state(q), had_field(q))})"); flush()
     note()
 for p in given:
     n = p["name"]
@@ -538,10 +542,10 @@ for p in given:
     cx.step(f"assigns ! (addr ! (from ! (fld ! refl (hop ! (look-in ! {at(n)} (sub ! 0 refl (whole !))) (stop !))))) (from ! (stop !)) (init ! {at('#p' + n)} refl (tt, tt))"); flush()
     cx.step(f"assigns ! (agg ! (and-then ! {ld('#p' + n)} (and-then ! (load ! (from ! (fld ! refl (stop !))) (look-in ! {at(n)} (sub ! 1 refl (whole !)))) (no-more !)))) (from ! (stop !)) (init ! {at('#s' + n)} refl {fits(p)})"); flush()
 lends("lends-shared", "shared", "keptShared", "tbl", "are", SECOND)
-for p in sts:
-    n = p["name"]; q = p["places"]; cx.move(f"cell-{n}"); flush(); cell = f"(Cell-{n} {of_state(p['number'])})"; xs = of_state(q)
-    w(I + f"use1 W (later (some (λ (l : Loan). ‵ (token l) ⊛ ‵ (lentPlaces {within(p)} l {xs}) ⊛ {kept_in(p, 'l')})))")
-    w(I + f"(lends-places {within(p)} 𝓤 H A W {cell} (Cell-{n} {of_state(p['number'])} {in_places(p, xs)}) {xs} ({had_field(q)}) (part-{n} {of_state(p['number'])} {in_places(p, xs)})) $ await ! tt $ pick ! (λ loan-{n}."); par += 1
+for p in reads:
+    n = p["name"]; q = p["places"]; cx.move(f"cell-{n}"); flush(); xs = of_state(q); m = of_state(p["number"]); u = in_places(p, xs)
+    w(I + f"use1 W (later (some (λ (l : Loan). ‵ (token l) ⊛ ‵ ({lent_in(p, 'l')}) ⊛ {kept_in(p, 'l')})))")
+    w(I + f"({'lends' if p in sts else 'shows'}-places {by_law(p)} ({cell_of(p, m)} {u}) {xs} ({had_field(q)}) (part-{n} {share(p)} {m} {u})) $ await ! tt $ pick ! (λ loan-{n}."); par += 1
     cx.c[0] = "loan"; splits(cx, [f"t-{q['name']}", f"O-{q['name']}", f"kept-{n}"]); flush()
 gw = " ".join([f"goes-work {BS} ls′{LOANS} (is .1)"] + [f"was-{p['name']}" for p in reads])
 cx.move(*had0); cx.group(len(had0), "x"); cx.step(f"use1 W (raw ({work_pre(SECOND)}){' ⊛ ' + copies if shrs else ''}) ({gw})")
@@ -550,11 +554,16 @@ else: cx.c[0] = "pre"
 flush(); note()
 w(I + f"calls-at ! fm (Work 𝓤 H A {TO}) known-work {to('work', SECOND)} {opds([arg(p) for p in wk])} (λ u′."); par += 1
 w(I + f"use1 W (later (some (λ (y : Ans). given (Known u′ y) {work_left(SECOND)}))) (told-work {BS} ls′{LOANS} u′) $ await ! tt $ pick ! (λ y. learn ! (λ e."); par += 2
-cx.c[0] = "left"; splits(cx, ["lent-tokens"] + [x + p["name"] for p in plcs for x in ("t-", "f-")] + ["had"])
-for p in sts:
-    n = p["name"]; q = p["places"]["name"]; xs = f"({fins('y', p['places'])})"; cx.move(f"t-{q}", f"kept-{n}", f"f-{q}"); cx.group(3, "loan"); flush()
-    w(I + f"use1 W (later (given ({are_places(p, xs)}) (Cell-{n} {of_state(p['number'])} {in_places(p, xs)}))) (places-back {within(p)} 𝓤 H A W (Cell-{n} {of_state(p['number'])}) loan-{n} {xs}) $ await ! tt $ learn ! (λ are-{n}."); par += 1
+cx.c[0] = "left"; splits(cx, ["lent-tokens"] + had_back + ["had"])
+for p in reads:
+    n = p["name"]; R = p["R"]; q = p["places"]["name"]; m = of_state(p["number"])
+    xs, by_back, kept = (f"({fins('y', p['places'])})", "places-back", [f"t-{q}", f"kept-{n}", f"f-{q}"]) if p in sts else (of_state(p["places"]), "shown-back", [f"t-{q}", f"kept-{n}"])
+    cx.move(*kept); cx.group(len(kept), "loan"); flush()
+    w(I + f"use1 W (later (given ({are_places(p, xs)}) ({cell_of(p, m)} {in_places(p, xs)}))) ({by_back} {by_law(p)} loan-{n} {xs}) $ await ! tt $ learn ! (λ {'are-' + n if p in sts else '_'}."); par += 1
     cx.c[0] = f"cell-{n}"
+    if p in views:
+        cx.step(mapped(p, 0, m, f"(sym (map-id {xs}))")); cx.move(f"cell-{n}", f"own-{n}", f"open-{n}")
+        cx.step(f"shuts ! tt {R.row} q′-{n} h-{n} ({R.mach('h-' + n)} ∷ []) b-{n} o-{n}"); cx.c[0:3] = [f"t-{n}"]; flush()
 comes_back("shared-back", ["lent-tokens", "kept"], SECOND, "_"); landed("#r", RD, "(y .0)", "(e .val)", "(e .is)"); note()
 fl = lambda i: f"(of-opd ! (load ! (from ! (fld ! refl (stop !))) (look-in ! {at('#r')} (sub ! {i} refl (whole !)))))"
 for p in sts:

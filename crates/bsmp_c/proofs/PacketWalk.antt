@@ -171,12 +171,12 @@ module _ (turnOf : TurnOf) (agree : Agree turnOf) (kt kc : Name) {M : Type 1} (�
   abbrev Obs-groups : Groups → Fml
   Obs-groups g = fobs γ-groups (M3.the-row .coded .code g)
 
-  -- the struct's cell with these fields, and the places within it
-  abbrev Cell-groups : ℕ → Val → Item 𝓤
-  Cell-groups m u = ‵ (fat fullShare (rawTy M3′.mir) b-groups o-groups (vstruct (ofList (vint w64 m ∷ u ∷ []))))
+  -- a share of the struct's cell with these fields, and the places within it
+  abbrev Cell-groups : Share → ℕ → Val → Item 𝓤
+  Cell-groups q m u = ‵ (fat q (rawTy M3′.mir) b-groups o-groups (vstruct (ofList (vint w64 m ∷ u ∷ []))))
 
-  part-groups : (m : ℕ) (u : Val) → Part (Go {0}) W (Cell-groups m u) fullShare (tyArray (tyInt w64) 5) b-groups (o-groups + 8) u (Cell-groups m)
-  part-groups m u = sub ! 1 refl (whole !)
+  part-groups : (q : Share) (m : ℕ) (u : Val) → Part (Go {0}) W (Cell-groups q m u) q (tyArray (tyInt w64) 5) b-groups (o-groups + 8) u (Cell-groups q m)
+  part-groups q m u = sub ! 1 refl (whole !)
 
   -- ---- the records in the slice, as numbers
   abbrev tbl : Records
@@ -280,7 +280,7 @@ module _ (turnOf : TurnOf) (agree : Agree turnOf) (kt kc : Name) {M : Type 1} (�
         -- [the locals; t-variables; O-variables; O-curves; O-functions; obs-groups; bor-groups; O-values; O-blocks; O-request; O-reply; t-curves; t-functions; t-groups; t-values; t-blocks; t-request; t-reply]
         move ! (66 ∷ 67 ∷ 74 ∷ []) $
         opens ! tt M3.the-row {h = h-groups} b-groups o-groups (λ vs-groups. spelt ! M3.the-row (Is M3.the-row) (shows 𝓤 H A M3.the-row) (LL.vals M3.the-type M3′.the-laws) (LL.tells M3.the-type M3′.the-laws) fullShare h-groups vs-groups b-groups o-groups $ move ! (1 ∷ []) $ facts ! M3.the-row (Is M3.the-row) (shows 𝓤 H A M3.the-row) h-groups (LL.val M3.the-type M3′.the-laws h-groups ∷ []) (λ was-groups.
-        move ! (span 4 62) $ rewrite ! 62 (λ (xs : List ℕ). Cell-groups (h-groups .count) (numbersVal w64 xs)) (map-id (h-groups .sets)) refl $ assigns ! (of-opd ! (load ! (from ! (hop ! (look ! 8 refl) (fld ! refl (stop !)))) (look-in ! 62 (sub ! 0 refl (whole !))))) (from ! (stop !)) (init ! 32 refl (tt, record { fits = LL.owed M3.the-type M3′.the-laws h-groups _ was-groups .0 .1 })) $
+        move ! (span 4 62) $ rewrite ! 62 (λ (xs : List ℕ). Cell-groups fullShare (h-groups .count) (numbersVal w64 xs)) (map-id (h-groups .sets)) refl $ assigns ! (of-opd ! (load ! (from ! (hop ! (look ! 8 refl) (fld ! refl (stop !)))) (look-in ! 62 (sub ! 0 refl (whole !))))) (from ! (stop !)) (init ! 32 refl (tt, record { fits = LL.owed M3.the-type M3′.the-laws h-groups _ was-groups .0 .1 })) $
         -- [the locals; cell-groups; open-groups; obs-groups; auth-groups; t-variables; O-variables; O-curves; O-functions; O-values; O-blocks; O-request; O-reply; t-curves; t-functions; t-values; t-blocks; t-request; t-reply]
         assigns ! (addr ! (from ! (stop !))) (from ! (stop !)) (init ! 42 refl (tt, tt)) $
         assigns ! (addr ! (from ! (stop !))) (from ! (stop !)) (init ! 44 refl (tt, tt)) $
@@ -296,22 +296,22 @@ module _ (turnOf : TurnOf) (agree : Agree turnOf) (kt kc : Name) {M : Type 1} (�
         use1 W (later (some (λ (l : Loans). Tokens 𝓤 H A W (places l-12 l-13 l-14) l ⊛ Each 𝓤 H A W (places l-12 l-13 l-14) shared tbl l ⊛ Each 𝓤 H A W (places l-12 l-13 l-14) keptShared tbl l))) (lends-shared 𝓤 H A W (places l-12 l-13 l-14) tbl are) $ await ! tt $ pick ! (λ ls′.
         split ! $ move ! (1 ∷ []) $ split ! $
         move ! (62 ∷ []) $
-        use1 W (later (some (λ (l : Loan). ‵ (token l) ⊛ ‵ (lentPlaces w64 5 b-groups (o-groups + 8) l (h-groups .sets)) ⊛ keptPlaces w64 5 b-groups (o-groups + 8) 𝓤 H A W (Cell-groups (h-groups .count)) l)))
-        (lends-places w64 5 b-groups (o-groups + 8) 𝓤 H A W (Cell-groups (h-groups .count)) (Cell-groups (h-groups .count) (numbersVal w64 (h-groups .sets))) (h-groups .sets) (subst (λ (xs : List ℕ). AreNumbers w64 5 xs) (map-id (h-groups .sets)) (LL.owed M3.the-type M3′.the-laws h-groups _ was-groups .1 .0)) (part-groups (h-groups .count) (numbersVal w64 (h-groups .sets)))) $ await ! tt $ pick ! (λ loan-groups.
+        use1 W (later (some (λ (l : Loan). ‵ (token l) ⊛ ‵ (lentPlaces w64 5 b-groups (o-groups + 8) l (h-groups .sets)) ⊛ keptPlaces w64 5 b-groups (o-groups + 8) 𝓤 H A W (Cell-groups fullShare (h-groups .count)) l)))
+        (lends-places w64 5 b-groups (o-groups + 8) 𝓤 H A W (Cell-groups fullShare (h-groups .count)) (Cell-groups fullShare (h-groups .count) (numbersVal w64 (h-groups .sets))) (h-groups .sets) (subst (λ (xs : List ℕ). AreNumbers w64 5 xs) (map-id (h-groups .sets)) (LL.owed M3.the-type M3′.the-laws h-groups _ was-groups .1 .0)) (part-groups fullShare (h-groups .count) (numbersVal w64 (h-groups .sets)))) $ await ! tt $ pick ! (λ loan-groups.
         split ! $ move ! (1 ∷ []) $ split ! $
         move ! (5 ∷ 3 ∷ 2 ∷ 0 ∷ span 70 12) $ group ! 16 $ use1 W (raw (Work 𝓤 H A turnOf .pre (to-work (places l-12 l-13 l-14) ls′ loan-groups)) ⊛ ‵ O-curves ⊛ ‵ O-functions ⊛ ‵ O-request) (goes-work (places l-12 l-13 l-14) ls′ loan-groups (is .1) was-groups) $ split ! $
         -- [pre; copies; kept-groups; kept; the locals; open-groups; obs-groups; auth-groups; t-variables; O-variables]
         calls-at ! fm (Work 𝓤 H A turnOf) known-work (to-work (places l-12 l-13 l-14) ls′ loan-groups) (and-then ! (load ! (from ! (stop !)) (look ! 31 refl)) (and-then ! (load ! (from ! (stop !)) (look ! 43 refl)) (and-then ! (load ! (from ! (stop !)) (look ! 45 refl)) (and-then ! (load ! (from ! (stop !)) (look ! 47 refl)) (and-then ! (load ! (from ! (stop !)) (look ! 8 refl)) (and-then ! (load ! (from ! (stop !)) (look ! 10 refl)) (and-then ! (load ! (from ! (stop !)) (look ! 33 refl)) (and-then ! (load ! (from ! (stop !)) (look ! 49 refl)) (and-then ! (load ! (from ! (stop !)) (look ! 14 refl)) (and-then ! (load ! (from ! (stop !)) (look ! 16 refl)) (and-then ! (load ! (from ! (stop !)) (look ! 18 refl)) (and-then ! (load ! (from ! (stop !)) (look ! 53 refl)) (and-then ! (load ! (from ! (stop !)) (look ! 57 refl)) (and-then ! (load ! (from ! (stop !)) (look ! 24 refl)) (and-then ! (load ! (from ! (stop !)) (look ! 61 refl)) (no-more !)))))))))))))))) (λ u′.
         use1 W (later (some (λ (y : Ans). given (Known u′ y) (Tokens 𝓤 H A W (places l-12 l-13 l-14) ls′ ⊛ ‵ (token loan-groups) ⊛ ‵ (lastPlaces w64 5 b-groups (o-groups + 8) loan-groups (y .1 .0)) ⊛ Had y)))) (told-work (places l-12 l-13 l-14) ls′ loan-groups u′) $ await ! tt $ pick ! (λ y. learn ! (λ e.
         split ! $ move ! (1 ∷ []) $ split ! $ move ! (1 ∷ []) $ split ! $ move ! (2 ∷ 5 ∷ 0 ∷ []) $ group ! 3 $
-        use1 W (later (given (AreNumbers w64 5 (y .1 .0)) (Cell-groups (h-groups .count) (numbersVal w64 (y .1 .0))))) (places-back w64 5 b-groups (o-groups + 8) 𝓤 H A W (Cell-groups (h-groups .count)) loan-groups (y .1 .0)) $ await ! tt $ learn ! (λ are-groups.
+        use1 W (later (given (AreNumbers w64 5 (y .1 .0)) (Cell-groups fullShare (h-groups .count) (numbersVal w64 (y .1 .0))))) (places-back w64 5 b-groups (o-groups + 8) 𝓤 H A W (Cell-groups fullShare (h-groups .count)) loan-groups (y .1 .0)) $ await ! tt $ learn ! (λ are-groups.
         move ! (2 ∷ 4 ∷ []) $ group ! 2 $
         use1 W (later (given (AreColumns tbl) (Cells 𝓤 H A W (places l-12 l-13 l-14) tbl))) (shared-back 𝓤 H A W (places l-12 l-13 l-14) tbl ls′) $ await ! tt $ learn ! (λ _.
         split ! $ move ! (1 ∷ []) $ split ! $ move ! (span 6 24 ++ (2 ∷ 30 ∷ 0 ∷ 31 ∷ 1 ∷ span 32 33)) $ land ! (from ! (stop !)) (init ! 34 refl (subst (λ (w : Val). Holds (hasTy M1′.mir w) × WT w) (sym (e .val)) (LL.lawful M1.the-type M1′.the-laws 𝓤 H A W .typed (y .0) _ (e .is) .0))) $ rewrite ! 34 (λ (w : Val). ‵ (fat fullShare M1′.mir l-17 0 w)) (e .val) refl $
         -- [the locals; cell-groups; had; copies; open-groups; obs-groups; auth-groups; t-variables; O-variables]
         assigns ! (of-opd ! (load ! (from ! (fld ! refl (stop !))) (look-in ! 34 (sub ! 1 refl (whole !))))) (from ! (hop ! (look ! 8 refl) (fld ! refl (stop !)))) (store-in ! 62 (sub ! 0 refl (whole !)) (tt, record { fits = (groups-is (y .0) (e .is)) .1 })) $
         assigns ! (of-opd ! (load ! (from ! (fld ! refl (stop !))) (look-in ! 34 (sub ! 0 refl (whole !))))) (from ! (stop !)) (init ! 0 refl (LL.lawful M0.the-type M0′.the-laws 𝓤 H A W .typed (y .0 .outcome) _ (out-is (y .0) (e .is)) .0)) $
-        move ! (62 ∷ 65 ∷ 66 ∷ 67 ∷ []) $ rewrite ! 0 (λ (xs : List ℕ). Cell-groups (y .0 .count) (numbersVal w64 xs)) (sym (map-id (y .1 .0))) refl $ owned ! M3.the-row (Is M3.the-row) (LL.makes M3.the-type M3′.the-plain 𝓤 H A) (groupsBy (y .0 .count) (y .1 .0)) _ (groups-left y (e .is) are-groups) $ move ! (1 ∷ 0 ∷ []) $ closes ! tt M3.the-row (groupsBy (y .0 .count) (y .1 .0)) (LL.val M3.the-type M3′.the-laws (groupsBy (y .0 .count) (y .1 .0)) ∷ []) b-groups o-groups $ move ! (span 3 62) $
+        move ! (62 ∷ 65 ∷ 66 ∷ 67 ∷ []) $ rewrite ! 0 (λ (xs : List ℕ). Cell-groups fullShare (y .0 .count) (numbersVal w64 xs)) (sym (map-id (y .1 .0))) refl $ owned ! M3.the-row (Is M3.the-row) (LL.makes M3.the-type M3′.the-plain 𝓤 H A) (groupsBy (y .0 .count) (y .1 .0)) _ (groups-left y (e .is) are-groups) $ move ! (1 ∷ 0 ∷ []) $ closes ! tt M3.the-row (groupsBy (y .0 .count) (y .1 .0)) (LL.val M3.the-type M3′.the-laws (groupsBy (y .0 .count) (y .1 .0)) ∷ []) b-groups o-groups $ move ! (span 3 62) $
         -- [the locals; obs-groups; bor-groups; t-groups; had; copies; t-variables; O-variables]
         returns ! (look ! 0 refl) $ forget ! 0 refl $ forget ! 2 refl $ forget ! 4 refl $ forget ! 6 refl $ forget ! 8 refl $ forget ! 10 refl $ forget ! 12 refl $ forget ! 14 refl $ forget ! 16 refl $ forget ! 18 refl $ forget ! 20 refl $ forget ! 22 refl $ forget ! 24 refl $ forget ! 26 refl $ forget ! 28 refl $ forget ! 30 refl $ forget ! 32 refl $ forget ! 34 refl $ forget ! 36 refl $ forget ! 38 refl $ forget ! 40 refl $ forget ! 42 refl $ forget ! 44 refl $ forget ! 46 refl $ forget ! 48 refl $ forget ! 50 refl $ forget ! 52 refl $ forget ! 54 refl $ forget ! 56 refl $ forget ! 58 refl $ forget ! 60 refl $
         free1 ! $ free1 ! $ free1 ! $ free1 ! $ free1 ! $ free1 ! $ free1 ! $ free1 ! $ free1 ! $ free1 ! $ free1 ! $ free1 ! $ free1 ! $ free1 ! $ free1 ! $ free1 ! $ free1 ! $ free1 ! $ free1 ! $ free1 ! $ free1 ! $ free1 ! $ free1 ! $ free1 ! $ free1 ! $ free1 ! $ free1 ! $ free1 ! $ free1 ! $ free1 ! $ free1 ! $ free0 ! $ keep ! (0 ∷ 1 ∷ 2 ∷ 3 ∷ 4 ∷ 5 ∷ 6 ∷ []) $ by ! (exits u′ y e)))))))))))))))))))))))))))))))))))))))))))))

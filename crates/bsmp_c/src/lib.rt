@@ -79,7 +79,7 @@ pub extern "C" fn bsmp_function_result(
     let mut sizes = [0u8; 64];
     let mut kinds = [0u8; 64];
     let count = columns::take(variables, &mut writable, &mut sizes, &mut kinds);
-    let made = *groups;
+    let made = groups.count;
     plain::function_result(
         count,
         &writable,
@@ -88,6 +88,7 @@ pub extern "C" fn bsmp_function_result(
         curves,
         functions,
         made,
+        &groups.sets,
         values,
         blocks,
         function,
@@ -118,7 +119,7 @@ pub extern "C" fn bsmp_board_store(
     let mut sizes = [0u8; 64];
     let mut kinds = [0u8; 64];
     let count = columns::take(variables, &mut writable, &mut sizes, &mut kinds);
-    let made = *groups;
+    let made = groups.count;
     plain::board_store(
         count,
         &writable,
@@ -127,6 +128,7 @@ pub extern "C" fn bsmp_board_store(
         curves,
         functions,
         made,
+        &groups.sets,
         values,
         blocks,
         variable,

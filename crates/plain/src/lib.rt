@@ -6,7 +6,6 @@ use bsmp::VariableNumber;
 use readings::SignedReading;
 use readings::UnsignedReading;
 use readings::Writing;
-use records::Groups;
 use results::Ran;
 use results::Stored;
 ghost use mathlib.Core.Path.{_≡_};
@@ -209,7 +208,8 @@ pub fn function_result(
     kinds: &[u8; 64],
     curves: &[u32],
     functions: &[u8],
-    groups: Groups,
+    made: u64,
+    sets: &[u64; 5],
     values: &[u8],
     blocks: &[u8],
     function: usize,
@@ -220,6 +220,7 @@ pub fn function_result(
     reply: &mut [u8],
 ) -> PlainOutcome
     ensures { λ r. let records = recordsBy count (now (writable .entry)) (now (sizes .entry)) (now (kinds .entry)) in
+        let groups = groupsBy made (now (sets .entry)) in
         let board = lending (recordsOf records) (now (curves .entry)) (now (functions .entry)) groups (now (values .entry)) (now (blocks .entry)) in
         ⌜ plainResultLeft r (now (reply .exit)) ≡ resultOf board function due failed error (now (output .entry)) (now (reply .entry)) ⌝ }
 {
@@ -231,7 +232,8 @@ pub fn function_result(
         kinds,
         curves,
         functions,
-        groups,
+        made,
+        sets,
         values,
         blocks,
         FunctionNumber(function),
@@ -250,13 +252,15 @@ pub fn board_store(
     kinds: &[u8; 64],
     curves: &[u32],
     functions: &[u8],
-    groups: Groups,
+    made: u64,
+    sets: &[u64; 5],
     values: &mut [u8],
     blocks: &[u8],
     variable: usize,
     bytes: &[u8],
 ) -> u8
     ensures { λ r. let records = recordsBy count (now (writable .entry)) (now (sizes .entry)) (now (kinds .entry)) in
+        let groups = groupsBy made (now (sets .entry)) in
         let board = lending (recordsOf records) (now (curves .entry)) (now (functions .entry)) groups (now (values .entry)) (now (blocks .entry)) in
         ⌜ plainBytesLeft r (now (values .exit)) ≡ storeOf board variable (now (bytes .entry)) ⌝ }
 {
@@ -267,7 +271,8 @@ pub fn board_store(
         kinds,
         curves,
         functions,
-        groups,
+        made,
+        sets,
         values,
         blocks,
         VariableNumber(variable),

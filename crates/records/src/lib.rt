@@ -428,13 +428,15 @@ pub fn usable_board(
     kinds: &[u8; 64],
     curves: &[u32],
     functions: &[u8],
-    groups: Groups,
+    made: u64,
+    sets: &[u64; 5],
     values: &[u8],
     blocks: &[u8],
 ) -> bool
     ensures { λ r. let records = recordsBy count (now (writable .entry)) (now (sizes .entry)) (now (kinds .entry)) in
         let t = tableOf records (now (curves .entry)) (now (functions .entry)) in
-        ⌜ r ≡ usable t (held (layout t) (lent (now (values .entry)) (now (blocks .entry)) (groupsOf groups))) ⌝ }
+        let groups = groupsOf (groupsBy made (now (sets .entry))) in
+        ⌜ r ≡ usable t (held (layout t) (lent (now (values .entry)) (now (blocks .entry)) groups)) ⌝ }
 {
     let variables_total = usable_records(count, writable, sizes, kinds);
     if !variables_total.usable {
@@ -453,8 +455,7 @@ pub fn usable_board(
     if !usable_functions(functions) {
         return false;
     }
-    let sets = groups.sets;
-    usable_groups(groups.count, &sets, count)
+    usable_groups(made, sets, count)
 }
 
 // The same as `usable_board`, for packets: it has one caller, since the compiler takes only such a function into the entry whole.
