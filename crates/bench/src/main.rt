@@ -1,5 +1,5 @@
 // The bench: board A over standard input. Records of a two-byte length and a packet; one line for each.
-use node::Done;
+use bsmp::Outcome;
 use records::Groups;
 use records::Records;
 ghost use mathlib.Core.Path.{_≡_};
@@ -26,6 +26,12 @@ fn variables() -> Records {
     }
 }
 
+// How a packet ended, and the group table after it.
+struct Ended {
+    outcome: Outcome,
+    groups: Groups,
+}
+
 // How long a packet's line is, and the group table after it.
 struct Turned {
     size: usize,
@@ -40,20 +46,22 @@ fn answered(
     values: &mut [u8],
     blocks: &mut [u8],
     reply: &mut [u8],
-) -> Done {
+) -> Ended {
     let writable = records.writable;
     let sizes = records.sizes;
     let kinds = records.kinds;
     let curves = [1u32, 4, 2];
     let functions = [1u8, 2];
-    node::packet(
+    let mut sets = groups.sets;
+    let done = node::packet(
         records.count,
         &writable,
         &sizes,
         &kinds,
         &curves,
         &functions,
-        groups,
+        groups.count,
+        &mut sets,
         5,
         0x81,
         0,
@@ -61,7 +69,13 @@ fn answered(
         blocks,
         packet,
         reply,
-    )
+    );
+    let outcome = done.outcome;
+    let groups = Groups {
+        count: done.count,
+        sets,
+    };
+    Ended { outcome, groups }
 }
 
 // One packet's line at the start of out.

@@ -67,8 +67,8 @@ pub packet-refused : (x : Lending) (own multicast busy : ℕ) (request reply : L
 packet-refused x own multicast busy request reply o g′ reply′ values′ blocks′ five h k =
     let y : PacketLeft = packetLeftOf (packet (tableIn x) (placed own multicast) busy (length reply) request (heldIn x)) reply (x .groups) in
     let r = refused-kind (y .outcome) (sym (λ i. h i .outcome .kind) ∙ k) in
-    let z = refused-keeps (tableIn x) (placed own multicast) busy request (x .groups) (r .0) (record { outcome = y .outcome; groups = y .groups })
-    reply (y .reply) (x .values) (y .values) (x .blocks) (y .blocks) five (r .1) refl in
+    let z = refused-keeps (tableIn x) (placed own multicast) busy request (x .groups) (r .0) (record { outcome = y .outcome; count = y .groups .count })
+    (y .groups .sets) reply (y .reply) (x .values) (y .values) (x .blocks) (y .blocks) five (r .1) refl in
     ((λ i. h i .reply) ∙ z .0, (λ i. h i .values) ∙ z .1, (λ i. h i .blocks) ∙ z .2, (λ i. h i .groups) ∙ z .3)
 
 pub function-result-refused : (x : Lending) (f : ℕ) (due failed : Bool) (error : ℕ) (output reply : List ℕ) (o : PlainOutcome) (reply′ : List ℕ)

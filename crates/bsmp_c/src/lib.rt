@@ -34,7 +34,7 @@ pub extern "C" fn bsmp_packet(
     let mut sizes = [0u8; 64];
     let mut kinds = [0u8; 64];
     let count = columns::take(variables, &mut writable, &mut sizes, &mut kinds);
-    let made = *groups;
+    let made = groups.count;
     let done = plain::packet(
         count,
         &writable,
@@ -43,6 +43,7 @@ pub extern "C" fn bsmp_packet(
         curves,
         functions,
         made,
+        &mut groups.sets,
         own,
         multicast,
         busy,
@@ -51,7 +52,7 @@ pub extern "C" fn bsmp_packet(
         request,
         reply,
     );
-    *groups = done.groups;
+    groups.count = done.count;
     done.outcome
 }
 
@@ -78,7 +79,7 @@ pub extern "C" fn bsmp_function_result(
     let mut sizes = [0u8; 64];
     let mut kinds = [0u8; 64];
     let count = columns::take(variables, &mut writable, &mut sizes, &mut kinds);
-    let made = *groups;
+    let made = groups.count;
     plain::function_result(
         count,
         &writable,
@@ -87,6 +88,7 @@ pub extern "C" fn bsmp_function_result(
         curves,
         functions,
         made,
+        &groups.sets,
         values,
         blocks,
         function,
@@ -117,7 +119,7 @@ pub extern "C" fn bsmp_board_store(
     let mut sizes = [0u8; 64];
     let mut kinds = [0u8; 64];
     let count = columns::take(variables, &mut writable, &mut sizes, &mut kinds);
-    let made = *groups;
+    let made = groups.count;
     plain::board_store(
         count,
         &writable,
@@ -126,6 +128,7 @@ pub extern "C" fn bsmp_board_store(
         curves,
         functions,
         made,
+        &groups.sets,
         values,
         blocks,
         variable,

@@ -80,7 +80,7 @@ pub record Loans : Type 0 where
   pub sizes : Loan
   pub kinds : Loan
 
-abbrev loan : ℕ → GName → Loan
+abbrev pub loan : ℕ → GName → Loan
 loan ν γ = record { life = ν; name = γ }
 
 abbrev pub lft : Loan → Lft

@@ -1,4 +1,5 @@
 pub mod Columns
 pub mod Lent
+pub mod Within
 pub mod Walk
 pub mod Byte

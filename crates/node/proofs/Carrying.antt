@@ -18,7 +18,7 @@ use Rattle.bsmp.specs.declared.Outcome.the-variants as O
 use Rattle.bsmp.proofs.Usable.{usable-parts, faults-none, faults-some}
 use Rattle.bsmp.proofs.Stays.{stays}
 use Rattle.bsmp.proofs.Store.{join-cut}
-use Rattle.records.specs.Lending.{groupsOf, tableOf, lent}
+use Rattle.records.specs.Lending.{groupsBy, groupsOf, tableOf, lent}
 use Rattle.records.specs.declared.Records.{Records}
 use Rattle.records.specs.declared.Groups.{Groups}
 use Rattle.records.proofs.Lending.{group-count}
@@ -31,7 +31,7 @@ use Rattle.serve.specs.Serve.{typedLayout}
 use Rattle.changes.specs.Changes.{regrouped}
 use Rattle.changes.specs.declared.Regroup.{Regroup}
 use Rattle.changes.specs.declared.Regroup.the-variants.{Keep, Make}
-use Rattle.node.specs.Promise.{tableWith, packetLeft, packetLeftOf, unopenedOf, frontOf, Fits, BoardChecked, BoardReady, EndsAs, CarriedAs}
+use Rattle.node.specs.Promise.{tableWith, packetLeft, packetLeftOf, unopenedOf, frontOf, Fits, BoardReady, EndsAs, CarriedAs}
 use Rattle.node.proofs.Receiving.{stopped}
 
 -- any board ----------------------------------------------------------------------------------------------------------------------
@@ -45,10 +45,10 @@ module _ (r : Records) (cs fs : List ℕ) (g : Groups) (vs bs : List ℕ) (own m
   abbrev A : Place
   A = placed own mc
 
-  pub carried-unusable : (u : Bool) → BoardChecked r cs fs g X u → u ≡ false → o ≡ O.Refused BoardUnusable → q ≡ Keep → CarriedAs T A busy p X b o q b X
+  pub carried-unusable : (u : Bool) → u ≡ usable T (held (layout T) X) → u ≡ false → o ≡ O.Refused BoardUnusable → q ≡ Keep → CarriedAs T A busy p X b o q b X
   unfolding packet
   carried-unusable u checked v e f = record {
-    ends = stopped (layout T) X b _ BoardUnusable o q (faults-some T (held (layout T) X) _ _ _ (sym (checked .board) ∙ v) refl) e f;
+    ends = stopped (layout T) X b _ BoardUnusable o q (faults-some T (held (layout T) X) _ _ _ (sym checked ∙ v) refl) e f;
   }
 
   -- the packet's tests, on a usable board
@@ -118,11 +118,12 @@ module _ (t : Table) (a : Place) (busy : ℕ) (p vs bs : List ℕ) (g : Groups) 
       let c : length (groupsOf g ++ n ∷ []) ≡ length (groupsOf g) + 1 = simp length-append in
       absurd (omega (arith, c, ap length m))
 
-  pub packet-fits : Fits r g
-  packet-fits = record { room = few (usable t S) refl }
+  pub packet-fits : length (g .sets) ≡ 5 → Fits r g
+  packet-fits five = record { room = few (usable t S) refl; places = five }
 
-  pub packet-left : (y : Groups) → y ≡ tableWith (regrouped r (groupsOf g)) g → packetLeft (record { outcome = o; groups = y }) b′ vs′ bs′ ≡ packetLeftOf Z b g
-  packet-left y e =
+  pub packet-left : (n : ℕ) (ps : List ℕ) → groupsBy n ps ≡ tableWith (regrouped r (groupsOf g)) g
+      → packetLeft (record { outcome = o; count = n }) ps b′ vs′ bs′ ≡ packetLeftOf Z b g
+  packet-left n ps e =
       let z : held (layout t) (lent vs′ bs′ (regrouped r (groupsOf g))) ≡ Z .state = h .ends .leaves .holds in
       λ i. record {
         outcome = h .ends .outcome i;

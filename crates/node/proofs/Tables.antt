@@ -14,10 +14,11 @@ use Rattle.bsmp.specs.declared.Variable.{Variable}
 use Rattle.bsmp.proofs.Bools.{and-true}
 use Rattle.lists.specs.Put.{put}
 use Rattle.lists.proofs.Put.{set-put}
-use Rattle.records.specs.Lending.{recordsBy, recordsOf, groupsOf, tableOf, lent}
+use Rattle.records.specs.Lending.{recordsBy, recordsOf, groupsBy, groupsOf, entryOf, tableOf, lent}
 use Rattle.records.specs.declared.Records.{Records}
 use Rattle.records.specs.declared.Groups.{Groups}
-use Rattle.records.proofs.Lending.{record-count, sizes-lent, types-lent, group-count, group-at, groups-lent}
+use Rattle.records.specs.declared.Entry.{Entry}
+use Rattle.records.proofs.Lending.{record-count, sizes-lent, types-lent, group-count, group-at, groups-lent, made-count}
 use Rattle.records.proofs.Whole.{layout-lent}
 use Rattle.records.proofs.Sound as R
 use Rattle.variables.proofs.Listing.{sizes-usable}
@@ -26,7 +27,7 @@ use Rattle.serve.specs.Serve.{typedLayout, SoundTypes}
 use Rattle.changes.specs.Changes.{regrouped}
 use Rattle.changes.specs.declared.Regroup.{Regroup}
 use Rattle.changes.specs.declared.Regroup.the-variants.{Keep, Make, Remove}
-use Rattle.node.specs.Promise.{tableWith, Fits, frontOf, BoardChecked, BoardReady}
+use Rattle.node.specs.Promise.{tableWith, Fits, frontOf, BoardReady}
 
 -- the table of the groups that it holds is the table, whatever its count
 module _ (g : Groups) (five : length (g .sets) ≡ 5) where
@@ -60,39 +61,42 @@ module _ (g : Groups) (five : length (g .sets) ≡ 5) where
       λ i. record { count = group-count g i; sets = sym s i }
 
 -- .. with one group more, and with none
-table-with : (g x : Groups) (m : ℕ) → length (g .sets) ≡ 5 → g .count < 5 → (groupsOf x ≡ groupsOf g ++ m ∷ []) × (x .sets ≡ set (g .sets) (g .count) m)
-    → x ≡ tableWith (groupsOf g ++ m ∷ []) g
-unfolding put
-table-with g x m five h e =
-    let n : ℕ = g .count in
-    let c : x .count ≡ length (groupsOf g ++ m ∷ []) = group-count x ∙ ap length (e .0) in
-    let k : length (groupsOf g ++ m ∷ []) ≡ n + 1 = simp length-append (omega (arith, group-count g)) in
-    let t : groupsOf g ≡ take n (g .sets) = groups-lent g (omega arith) in
-    let p : (groupsOf g ++ m ∷ []) ++ drop (length (groupsOf g ++ m ∷ [])) (g .sets) ≡ x .sets =
-    append-assoc (groupsOf g) (m ∷ []) _ ∙ ap₂ (λ a b. a ++ m ∷ drop b (g .sets)) t k ∙ sym (set-put (g .sets) n m (omega arith)) ∙ sym (e .1) in
-    let l : length (x .sets) ≤ 5 = rw (e .1, length-set (g .sets) n m) (omega arith) in
-    λ i. record { count = c i; sets = (sym (take-all 5 (x .sets) l) ∙ ap (take 5) (sym p)) i }
+module _ (n : ℕ) (ps : List ℕ) (five : length ps ≡ 5) where
+  abbrev was : List ℕ
+  was = groupsOf (groupsBy n ps)
 
-table-without : (g x : Groups) → length (g .sets) ≡ 5 → (groupsOf x ≡ []) × (x .sets ≡ g .sets) → x ≡ tableWith [] g
-table-without g x five e =
-    let c : x .count ≡ 0 = group-count x ∙ ap length (e .0) in
-    λ i. record { count = c i; sets = (e .1 ∙ sym (take-all 5 (g .sets) (omega arith))) i }
+  table-with : (m : ℕ) → n < 5 → groupsBy (n + 1) (set ps n m) ≡ tableWith (was ++ m ∷ []) (groupsBy n ps)
+  unfolding put
+  table-with m h =
+      let k : length (was ++ m ∷ []) ≡ n + 1 = simp length-append (omega (arith, made-count n ps)) in
+      let t : was ≡ take n ps = groups-lent (groupsBy n ps) (omega arith) in
+      let p : (was ++ m ∷ []) ++ drop (length (was ++ m ∷ [])) ps ≡ set ps n m =
+      append-assoc was (m ∷ []) _ ∙ ap₂ (λ a b. a ++ m ∷ drop b ps) t k ∙ sym (set-put ps n m (omega arith)) in
+      let l : length (set ps n m) ≤ 5 = rw (length-set ps n m) (omega arith) in
+      λ i. record { count = sym k i; sets = (sym (take-all 5 (set ps n m) l) ∙ ap (take 5) (sym p)) i }
+
+  table-without : groupsBy 0 ps ≡ tableWith [] (groupsBy n ps)
+  table-without = λ i. record { count = 0; sets = sym (take-all 5 ps (omega arith)) i }
 
 -- so the table after a message, by what becomes of the made groups
-pub group-room : (r : Regroup) (g : Groups) (m n : ℕ) → Fits r g → r ≡ Make m → n ≡ g .count → n < 5
-group-room r g m n h e f = rw f (h .room m e)
+module _ (r : Regroup) (n : ℕ) (ps : List ℕ) (h : Fits r (groupsBy n ps)) where
+  pub group-room : (m : ℕ) → r ≡ Make m → n < 5
+  group-room m e = h .room m e
 
-module _ (r : Regroup) (g : Groups) (five : length (g .sets) ≡ 5) where
-  pub regroup-keep : r ≡ Keep → g ≡ tableWith (regrouped r (groupsOf g)) g
-  regroup-keep e = rw e (table-same g five)
+  pub entry-place : (m set : ℕ) (e : Entry) → r ≡ Make m → e ≡ entryOf n set → e .place < 5
+  entry-place m set e k q = rw q (h .room m k)
 
-  module _ (x : Groups) where
-    pub regroup-make : (m : ℕ) → Fits r g → r ≡ Make m → groupsOf x ≡ groupsOf g ++ m ∷ [] → x .sets ≡ set (g .sets) (g .count) m
-        → x ≡ tableWith (regrouped r (groupsOf g)) g
-    regroup-make m h e p q = rw e (table-with g x m five (h .room m e) (p, q))
+  abbrev after : Groups
+  after = tableWith (regrouped r (groupsOf (groupsBy n ps))) (groupsBy n ps)
 
-    pub regroup-remove : r ≡ Remove → groupsOf x ≡ [] → x .sets ≡ g .sets → x ≡ tableWith (regrouped r (groupsOf g)) g
-    regroup-remove e p q = rw e (table-without g x five (p, q))
+  pub regroup-keep : r ≡ Keep → groupsBy n ps ≡ after
+  regroup-keep e = rw e (table-same (groupsBy n ps) (h .places))
+
+  pub regroup-make : (m : ℕ) (e : Entry) → r ≡ Make m → e ≡ entryOf n m → groupsBy (e .count) (set ps (e .place) (e .set)) ≡ after
+  regroup-make m e k q = ap (λ y. groupsBy (y .count) (set ps (y .place) (y .set))) q ∙ rw k (table-with n ps (h .places) m (h .room m k))
+
+  pub regroup-remove : (x : ℕ) → r ≡ Remove → x ≡ 0 → groupsBy x ps ≡ after
+  regroup-remove x k q = ap (λ y. groupsBy y ps) q ∙ rw k (table-without n ps (h .places))
 
 -- a usable board ---------------------------------------------------------------------------------------------------------------
 types-pass : (vs : List Variable) → every usableVariable vs ≡ true → every isType (map (λ v. v .writable) vs) ≡ true
@@ -109,9 +113,9 @@ module _ (count : ℕ) (ws ss ks cs fs : List ℕ) (g : Groups) (vs bs : List �
   abbrev T : Table
   T = tableOf r cs fs
 
-  module _ (checked : BoardChecked r cs fs g (lent vs bs (groupsOf g)) u) (v : u ≡ true) (types : length ws ≡ 64) (sizes : length ss ≡ 64) where
+  module _ (checked : u ≡ usable T (held (layout T) (lent vs bs (groupsOf g)))) (v : u ≡ true) (types : length ws ≡ 64) (sizes : length ss ≡ 64) (places : length (g .sets) ≡ 5) where
     is-usable : usable T (held (layout T) (lent vs bs (groupsOf g))) ≡ true
-    is-usable = sym (checked .board) ∙ v
+    is-usable = sym checked ∙ v
 
     sound : R.Sound T (lent vs bs (groupsOf g))
     sound = R.usable-sound T (lent vs bs (groupsOf g)) is-usable
@@ -138,7 +142,7 @@ module _ (count : ℕ) (ws ss ks cs fs : List ℕ) (g : Groups) (vs bs : List �
     types-are = types-lent r within-types ∙ sym (front (r .count) (r .writable))
 
     groups-same : frontOf (g .count) (g .sets) ≡ groupsOf g
-    groups-same = front (g .count) (g .sets) ∙ sym (groups-lent g (omega (arith, few-groups, checked .sets)))
+    groups-same = front (g .count) (g .sets) ∙ sym (groups-lent g (omega (arith, few-groups, places)))
 
     sound-board : SoundBoard (typedLayout (frontOf (r .count) (r .sizes)) (frontOf (r .count) (r .writable)) cs fs) (lent vs bs (frontOf (g .count) (g .sets)))
     sound-board = rw groups-same (record {
@@ -168,7 +172,7 @@ module _ (count : ℕ) (ws ss ks cs fs : List ℕ) (g : Groups) (vs bs : List �
       usable-is = is-usable;
       sizes-inside = within-sizes;
       types-inside = within-types;
-      sets-inside = omega (arith, few-groups, checked .sets);
+      sets-inside = omega (arith, few-groups, places);
       layout-is =
           ap₂ (λ ns ws. typedLayout ns ws cs fs) (front (r .count) (r .sizes)) (front (r .count) (r .writable)) ∙ layout-lent r cs fs within-sizes within-types;
       groups-are = groups-same;

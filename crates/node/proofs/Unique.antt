@@ -11,24 +11,24 @@ use Rattle.bsmp.specs.declared.Refusal.{Refusal}
 use Rattle.bsmp.specs.declared.Outcome.the-variants as O
 use Rattle.bsmp.proofs.Keeps.{refusal-keeps, outcome-refused}
 use Rattle.bsmp.proofs.Store.{join-cut}
-use Rattle.records.specs.Lending.{groupsOf, lent}
+use Rattle.records.specs.Lending.{groupsBy, groupsOf, lent}
 use Rattle.records.specs.declared.Groups.{Groups}
 use Rattle.node.specs.Promise.{PacketLeft, packetLeft, packetLeftOf}
 use Rattle.node.specs.declared.Done.{Done}
 use Rattle.node.proofs.Tables.{table-same}
 
 -- any two results that it allows are equal, with all that they leave
-pub unique : (x : PacketLeft) (d d′ : Done) (r r′ vs vs′ bs bs′ : List ℕ) → packetLeft d r vs bs ≡ x → packetLeft d′ r′ vs′ bs′ ≡ x
-    → (d ≡ d′) × (r ≡ r′) × (vs ≡ vs′) × (bs ≡ bs′)
-unique x d d′ r r′ vs vs′ bs bs′ h k =
-    let q : packetLeft d r vs bs ≡ packetLeft d′ r′ vs′ bs′ = h ∙ sym k in
-    (λ i. record { outcome = q i .outcome; groups = q i .groups }, ap (λ y. y .reply) q, ap (λ y. y .values) q, ap (λ y. y .blocks) q)
+pub unique : (x : PacketLeft) (d d′ : Done) (gs gs′ r r′ vs vs′ bs bs′ : List ℕ) → packetLeft d gs r vs bs ≡ x → packetLeft d′ gs′ r′ vs′ bs′ ≡ x
+    → (d ≡ d′) × (gs ≡ gs′) × (r ≡ r′) × (vs ≡ vs′) × (bs ≡ bs′)
+unique x d d′ gs gs′ r r′ vs vs′ bs bs′ h k =
+    let q : packetLeft d gs r vs bs ≡ packetLeft d′ gs′ r′ vs′ bs′ = h ∙ sym k in
+    (λ i. record { outcome = q i .outcome; count = q i .groups .count }, ap (λ y. y .groups .sets) q, ap (λ y. y .reply) q, ap (λ y. y .values) q, ap (λ y. y .blocks) q)
 
 -- a refused packet leaves the reply buffer, both stores and the group table as they were
-pub refused-keeps : (t : Table) (a : Place) (busy : ℕ) (p : List ℕ) (g : Groups) (n : Refusal) (d : Done) (r r′ vs vs′ bs bs′ : List ℕ) → length (g .sets) ≡ 5
-    → d .outcome ≡ O.Refused n → packetLeft d r′ vs′ bs′ ≡ packetLeftOf (packet t a busy (length r) p (held (layout t) (lent vs bs (groupsOf g)))) r g
-    → (r′ ≡ r) × (vs′ ≡ vs) × (bs′ ≡ bs) × (d .groups ≡ g)
-refused-keeps t a busy p g n d r r′ vs vs′ bs bs′ five e h =
+pub refused-keeps : (t : Table) (a : Place) (busy : ℕ) (p : List ℕ) (g : Groups) (n : Refusal) (d : Done) (gs′ r r′ vs vs′ bs bs′ : List ℕ) → length (g .sets) ≡ 5
+    → d .outcome ≡ O.Refused n → packetLeft d gs′ r′ vs′ bs′ ≡ packetLeftOf (packet t a busy (length r) p (held (layout t) (lent vs bs (groupsOf g)))) r g
+    → (r′ ≡ r) × (vs′ ≡ vs) × (bs′ ≡ bs) × (groupsBy (d .count) gs′ ≡ g)
+refused-keeps t a busy p g n d gs′ r r′ vs vs′ bs bs′ five e h =
     let s : State = held (layout t) (lent vs bs (groupsOf g)) in
     let x : Result = packet t a busy (length r) p s in
     let o : x .ending ≡ Ending.refused n = outcome-refused (x .ending) n (sym (ap (λ y. y .outcome) h) ∙ e) in

@@ -14,7 +14,7 @@ use Rattle.bsmp.specs.declared.Outcome.the-variants as O
 use Rattle.lists.specs.Put.{put, part}
 use Rattle.wire.specs.declared.Opened.{Opened}
 use Rattle.wire.specs.declared.Opened.the-variants.{Message, Refused}
-use Rattle.records.specs.Lending.{groupsOf, tableOf, lent}
+use Rattle.records.specs.Lending.{groupsBy, groupsOf, tableOf, lent}
 use Rattle.records.specs.declared.Records.{Records}
 use Rattle.records.specs.declared.Groups.{Groups}
 use Rattle.judging.specs.Judging.{SoundBoard}
@@ -49,8 +49,8 @@ packetLeftOf x r g = record {
 }
 
 -- .. and as the code has it
-abbrev pub packetLeft : Done → (reply values blocks : List ℕ) → PacketLeft
-packetLeft d r vs bs = record { outcome = d .outcome; groups = d .groups; reply = r; values = vs; blocks = bs }
+abbrev pub packetLeft : Done → (sets reply values blocks : List ℕ) → PacketLeft
+packetLeft d gs r vs bs = record { outcome = d .outcome; groups = groupsBy (d .count) gs; reply = r; values = vs; blocks = bs }
 
 -- for the functions below the entry ---------------------------------------------------------------------------------------
 -- what comes of a packet that yields no message
@@ -81,6 +81,7 @@ pub record Closable (s : Spoken) (b : List ℕ) : Type 0 where
 -- a group table with room for what a message makes
 pub record Fits (r : Regroup) (g : Groups) : Type 0 where
   pub room : (m : ℕ) → r ≡ Make m → g .count < 5
+  pub places : length (g .sets) ≡ 5
 
 -- what the work leaves before the table is regrouped: y, and g becomes of the made groups
 pub record EndsAs (z : Result) (l : Layout) (b : List ℕ) (o : Outcome) (g : Regroup) (b′ : List ℕ) (y : Lent) : Type 0 where
@@ -95,11 +96,6 @@ pub record CarriedAs (t : Table) (a : Place) (busy : ℕ) (p : List ℕ) (x : Le
 -- the front of an array, as it is lent
 abbrev pub frontOf : ℕ → List ℕ → List ℕ
 frontOf n xs = midOf 0 (n - 0) xs
-
--- refusal 1, as u has it, and how long the array is that a group table's places stand in
-pub record BoardChecked (r : Records) (cs fs : List ℕ) (g : Groups) (x : Lent) (u : Bool) : Type 0 where
-  pub board : u ≡ usable (tableOf r cs fs) (held (layout (tableOf r cs fs)) x)
-  pub sets : length (g .sets) ≡ 5
 
 -- a usable board, whose columns and places can be lent by their fronts
 pub record BoardReady (r : Records) (cs fs : List ℕ) (g : Groups) (vs bs : List ℕ) : Type 0 where

@@ -12,19 +12,19 @@ ghost use Rattle.bsmp.specs.Board.{layout};
 ghost use Rattle.bsmp.specs.Packet.{message, served, packet};
 ghost use Rattle.bsmp.specs.Store.{held};
 ghost use Rattle.bsmp.specs.declared.Outcome.the-variants as O;
-ghost use Rattle.records.specs.Lending.{recordsBy, groupsOf, tableOf, lent};
+ghost use Rattle.records.specs.Lending.{recordsBy, groupsBy, groupsOf, tableOf, lent};
 ghost use Rattle.judging.specs.Judging.{SoundBoard};
 ghost use Rattle.serve.specs.Serve.{typedLayout, SoundTypes};
 ghost use Rattle.changes.specs.Changes.{regrouped};
 ghost use Rattle.changes.specs.declared.Regroup.the-variants.{Keep};
 ghost use Rattle.wire.specs.Opening.{placed};
 ghost use Rattle.node.specs.Promise.{tableWith, packetLeft, packetLeftOf, unopenedOf};
-ghost use Rattle.node.specs.Promise.{Closable, Closed, EndsAs, Fits, BoardChecked, BoardReady, CarriedAs};
+ghost use Rattle.node.specs.Promise.{Closable, Closed, EndsAs, Fits, BoardReady, CarriedAs};
 
-// How a call ended, and the group table that it leaves.
+// How a call ended, and how many groups are made then.
 pub struct Done {
     pub outcome: Outcome,
-    pub groups: Groups,
+    pub count: u64,
 }
 
 // How the work of a packet ended, and what it makes of the made groups.
@@ -33,15 +33,22 @@ struct Received {
     regroup: Regroup,
 }
 
-// The group table after a message.
-fn regroup(groups: Groups, r: Regroup) -> Groups
-    requires { ⌜ Fits r groups ⌝ }
-    ensures { λ x. ⌜ x ≡ tableWith (regrouped r (groupsOf groups)) groups ⌝ }
+// The group table after a message: its new count. This alone writes into its places.
+fn regroup(made: u64, sets: &mut [u64; 5], r: Regroup) -> u64
+    requires { ⌜ Fits r (groupsBy made (now sets)) ⌝ }
+    ensures { λ x. let groups = groupsBy made (now (sets .entry)) in
+        ⌜ groupsBy x (now (sets .exit)) ≡ tableWith (regrouped r (groupsOf groups)) groups ⌝ }
 {
     match r {
-        Regroup::Keep => groups,
-        Regroup::Make(set) => groups.create(set),
-        Regroup::Remove => groups.remove(),
+        Regroup::Keep => made,
+        Regroup::Make(members) => {
+            let entry = Groups::create(made, members);
+            let place = entry.place;
+            let set = entry.set;
+            sets[place] = set;
+            entry.count
+        }
+        Regroup::Remove => Groups::remove(),
     }
 }
 
@@ -133,7 +140,8 @@ fn lend(
     kinds: &[u8; 64],
     curves: &[u32],
     functions: &[u8],
-    groups: Groups,
+    made: u64,
+    sets: &[u64],
     busy: u64,
     values: &mut [u8],
     blocks: &mut [u8],
@@ -141,17 +149,17 @@ fn lend(
     reply: &mut [u8],
 ) -> Received
     requires { let records = recordsBy count (now types) (now sizes) (now kinds) in
-        ⌜ BoardReady records (now curves) (now functions) groups (now values) (now blocks) ⌝ }
+        ⌜ BoardReady records (now curves) (now functions) (groupsBy made (now sets)) (now values) (now blocks) ⌝ }
     requires { ⌜ (2 ≤ length (now request)) × (4104 ≤ length (now reply)) ⌝ }
     ensures { λ r. let records = recordsBy count (now (types .entry)) (now (sizes .entry)) (now (kinds .entry)) in
         let l = layout (tableOf records (now (curves .entry)) (now (functions .entry))) in
-        let x = lent (now (values .entry)) (now (blocks .entry)) (groupsOf groups) in
-        let y = lent (now (values .exit)) (now (blocks .exit)) (groupsOf groups) in
+        let groups = groupsOf (groupsBy made (now (sets .entry))) in
+        let x = lent (now (values .entry)) (now (blocks .entry)) groups in
+        let y = lent (now (values .exit)) (now (blocks .exit)) groups in
         let result = served l busy due (message (now (request .entry))) (held l x) in
         ⌜ EndsAs result l (now (reply .entry)) (r .outcome) (r .regroup) (now (reply .exit)) y ⌝ }
 {
-    let made = groups.count as usize;
-    let sets = groups.sets;
+    let groups = made as usize;
     let end = request.len() - 1;
     answer(
         due,
@@ -159,7 +167,7 @@ fn lend(
         &types[0..count],
         curves,
         functions,
-        &sets[0..made],
+        &sets[0..groups],
         values,
         blocks,
         &request[1..end],
@@ -168,7 +176,7 @@ fn lend(
     )
 }
 
-// A packet on a usable board. Two columns come as slices, since no front is lent of an array that was lent.
+// A packet on a usable board. Two columns and the groups' places come as slices, since no front is lent of an array that was lent.
 fn receive(
     count: usize,
     types: &[u8],
@@ -176,7 +184,8 @@ fn receive(
     kinds: &[u8; 64],
     curves: &[u32],
     functions: &[u8],
-    groups: Groups,
+    made: u64,
+    sets: &[u64],
     own: u8,
     multicast: u8,
     busy: u64,
@@ -186,11 +195,12 @@ fn receive(
     reply: &mut [u8],
 ) -> Received
     requires { let records = recordsBy count (now types) (now sizes) (now kinds) in
-        ⌜ BoardReady records (now curves) (now functions) groups (now values) (now blocks) ⌝ }
+        ⌜ BoardReady records (now curves) (now functions) (groupsBy made (now sets)) (now values) (now blocks) ⌝ }
     ensures { λ r. let records = recordsBy count (now (types .entry)) (now (sizes .entry)) (now (kinds .entry)) in
         let t = tableOf records (now (curves .entry)) (now (functions .entry)) in
-        let x = lent (now (values .entry)) (now (blocks .entry)) (groupsOf groups) in
-        let y = lent (now (values .exit)) (now (blocks .exit)) (groupsOf groups) in
+        let groups = groupsOf (groupsBy made (now (sets .entry))) in
+        let x = lent (now (values .entry)) (now (blocks .entry)) groups in
+        let y = lent (now (values .exit)) (now (blocks .exit)) groups in
         let b = now (reply .entry) in
         ⌜ CarriedAs t (placed own multicast) busy (now (request .entry)) x b (r .outcome) (r .regroup) (now (reply .exit)) y ⌝ }
 {
@@ -208,7 +218,8 @@ fn receive(
         kinds,
         curves,
         functions,
-        groups,
+        made,
+        sets,
         busy,
         values,
         blocks,
@@ -217,36 +228,8 @@ fn receive(
     )
 }
 
-// Refusal 1, of records by columns. That the places of a group table are 5 is promised with it, for who lends their front.
-fn check_board(
-    count: usize,
-    writable: &[u8; 64],
-    sizes: &[u8; 64],
-    kinds: &[u8; 64],
-    curves: &[u32],
-    functions: &[u8],
-    groups: Groups,
-    values: &[u8],
-    blocks: &[u8],
-) -> bool
-    ensures { λ r. let records = recordsBy count (now (writable .entry)) (now (sizes .entry)) (now (kinds .entry)) in
-        let x = lent (now (values .entry)) (now (blocks .entry)) (groupsOf groups) in
-        ⌜ BoardChecked records (now (curves .entry)) (now (functions .entry)) groups x r ⌝ }
-{
-    records::quick_board(
-        count,
-        writable,
-        sizes,
-        kinds,
-        curves,
-        functions,
-        groups,
-        values,
-        blocks,
-    )
-}
-
-// Any packet, on any board. What it makes of the made groups is told and not yet done, so that the table goes through no more hands.
+// Any packet, on any board. What it makes of the made groups is told and not yet done. That their places are 5 is promised with it, for
+// who does it.
 fn carry(
     count: usize,
     writable: &[u8; 64],
@@ -254,7 +237,8 @@ fn carry(
     kinds: &[u8; 64],
     curves: &[u32],
     functions: &[u8],
-    groups: Groups,
+    made: u64,
+    sets: &[u64; 5],
     own: u8,
     multicast: u8,
     busy: u64,
@@ -265,19 +249,23 @@ fn carry(
 ) -> Received
     ensures { λ r. let records = recordsBy count (now (writable .entry)) (now (sizes .entry)) (now (kinds .entry)) in
         let t = tableOf records (now (curves .entry)) (now (functions .entry)) in
-        let x = lent (now (values .entry)) (now (blocks .entry)) (groupsOf groups) in
-        let y = lent (now (values .exit)) (now (blocks .exit)) (groupsOf groups) in
+        let groups = groupsOf (groupsBy made (now (sets .entry))) in
+        let x = lent (now (values .entry)) (now (blocks .entry)) groups in
+        let y = lent (now (values .exit)) (now (blocks .exit)) groups in
         let b = now (reply .entry) in
-        ⌜ CarriedAs t (placed own multicast) busy (now (request .entry)) x b (r .outcome) (r .regroup) (now (reply .exit)) y ⌝ }
+        ⌜ CarriedAs t (placed own multicast) busy (now (request .entry)) x b (r .outcome) (r .regroup) (now (reply .exit)) y
+        × (length (now (sets .entry)) ≡ 5) ⌝ }
 {
-    if check_board(
+    let places = &sets[..];
+    if records::quick_board(
         count,
         writable,
         sizes,
         kinds,
         curves,
         functions,
-        groups,
+        made,
+        sets,
         values,
         blocks,
     ) {
@@ -288,7 +276,8 @@ fn carry(
             kinds,
             curves,
             functions,
-            groups,
+            made,
+            places,
             own,
             multicast,
             busy,
@@ -309,7 +298,8 @@ pub fn packet(
     kinds: &[u8; 64],
     curves: &[u32],
     functions: &[u8],
-    groups: Groups,
+    made: u64,
+    sets: &mut [u64; 5],
     own: u8,
     multicast: u8,
     busy: u64,
@@ -320,9 +310,10 @@ pub fn packet(
 ) -> Done
     ensures { λ r. let records = recordsBy count (now (writable .entry)) (now (sizes .entry)) (now (kinds .entry)) in
         let t = tableOf records (now (curves .entry)) (now (functions .entry)) in
+        let groups = groupsBy made (now (sets .entry)) in
         let s = held (layout t) (lent (now (values .entry)) (now (blocks .entry)) (groupsOf groups)) in
         let result = packet t (placed own multicast) busy (length (now (reply .entry))) (now (request .entry)) s in
-        ⌜ packetLeft r (now (reply .exit)) (now (values .exit)) (now (blocks .exit)) ≡ packetLeftOf result (now (reply .entry)) groups ⌝ }
+        ⌜ packetLeft r (now (sets .exit)) (now (reply .exit)) (now (values .exit)) (now (blocks .exit)) ≡ packetLeftOf result (now (reply .entry)) groups ⌝ }
 {
     let h = carry(
         count,
@@ -331,7 +322,8 @@ pub fn packet(
         kinds,
         curves,
         functions,
-        groups,
+        made,
+        sets,
         own,
         multicast,
         busy,
@@ -344,6 +336,6 @@ pub fn packet(
     let change = h.regroup;
     Done {
         outcome,
-        groups: regroup(groups, change),
+        count: regroup(made, sets, change),
     }
 }

@@ -11,6 +11,7 @@ use Rattle.bsmp.specs.Number.{Reading, writing}
 use Rattle.bsmp.specs.declared.Variable.{Variable}
 use Rattle.bsmp.specs.declared.FunctionNumber.{FunctionNumber}
 use Rattle.bsmp.specs.declared.Outcome.{Outcome}
+use Rattle.records.specs.Lending.{groupsBy}
 use Rattle.node.specs.Promise.{PacketLeft, packetLeft}
 use Rattle.node.specs.declared.Done.{Done}
 use Rattle.results.specs.Results.{ranOf, resultLeft, resultLeftOf, StoreLeft, storeLeft}
@@ -28,9 +29,9 @@ use Rattle.plain.specs.declared.PlainOutcome.{PlainOutcome}
 pub signed-plain : (x : SignedReading) (z z′ : ℤ) → x ≡ Is z → z′ ≡ z → plainReading 0 z′ ≡ plainReadingOf (signedReadingOf x)
 signed-plain x z z′ e q = rw e (ap (λ (y : ℤ). plainReading 0 y) q)
 
-pub packet-plain : (d : Done) (o : PlainOutcome) (x : PacketLeft) (r vs bs : List ℕ) → packetLeft d r vs bs ≡ x → o ≡ plainOutcomeOf (d .outcome)
-    → plainPacketLeft o (d .groups) r vs bs ≡ plainPacketLeftOf x
-packet-plain d o x r vs bs e q = ap (λ (u : PlainOutcome). plainPacketLeft u (d .groups) r vs bs) q ∙ ap plainPacketLeftOf e
+pub packet-plain : (d : Done) (o : PlainOutcome) (x : PacketLeft) (gs r vs bs : List ℕ) → packetLeft d gs r vs bs ≡ x → o ≡ plainOutcomeOf (d .outcome)
+    → plainPacketLeft o (groupsBy (d .count) gs) r vs bs ≡ plainPacketLeftOf x
+packet-plain d o x gs r vs bs e q = ap (λ (u : PlainOutcome). plainPacketLeft u (groupsBy (d .count) gs) r vs bs) q ∙ ap plainPacketLeftOf e
 
 -- ran′ is how the function ran, as plain numbers say it
 pub result-plain : (t : Table) (n : ℕ) (f : FunctionNumber) (due : Bool) (s : State) (ran ran′ : Ran) (output reply : List ℕ)

@@ -6,13 +6,12 @@ use bsmp::VariableNumber;
 use readings::SignedReading;
 use readings::UnsignedReading;
 use readings::Writing;
-use records::Groups;
 use results::Ran;
 use results::Stored;
 ghost use mathlib.Core.Path.{_≡_};
 ghost use mathlib.Core.Bool.{true, false};
 ghost use lib.IntN.{pos};
-ghost use Rattle.records.specs.Lending.{recordsBy, recordsOf};
+ghost use Rattle.records.specs.Lending.{recordsBy, recordsOf, groupsBy};
 ghost use Rattle.readings.specs.Answers.{signedReadingOf, unsignedReadingOf};
 ghost use Rattle.plain.specs.Lending.{lending};
 ghost use Rattle.plain.specs.Numbers.{plainOutcomeOf, ranFrom, storedNumber, writingNumber, plainReadingOf, signedSays, unsignedSays};
@@ -43,10 +42,10 @@ pub struct PlainUnsignedReading {
     pub number: u64,
 }
 
-// What a packet comes to: how it ends, and the group table.
+// What a packet comes to: how it ends, and how many groups are made then.
 pub struct PlainDone {
     pub outcome: PlainOutcome,
-    pub groups: Groups,
+    pub count: u64,
 }
 
 impl PlainOutcome {
@@ -161,7 +160,8 @@ pub fn packet(
     kinds: &[u8; 64],
     curves: &[u32],
     functions: &[u8],
-    groups: Groups,
+    made: u64,
+    sets: &mut [u64; 5],
     own: u8,
     multicast: u8,
     busy: u64,
@@ -171,8 +171,9 @@ pub fn packet(
     reply: &mut [u8],
 ) -> PlainDone
     ensures { λ r. let records = recordsBy count (now (writable .entry)) (now (sizes .entry)) (now (kinds .entry)) in
+        let groups = groupsBy made (now (sets .entry)) in
         let board = lending (recordsOf records) (now (curves .entry)) (now (functions .entry)) groups (now (values .entry)) (now (blocks .entry)) in
-        ⌜ plainPacketLeft (r .outcome) (r .groups) (now (reply .exit)) (now (values .exit)) (now (blocks .exit))
+        ⌜ plainPacketLeft (r .outcome) (groupsBy (r .count) (now (sets .exit))) (now (reply .exit)) (now (values .exit)) (now (blocks .exit))
         ≡ packetOf board own multicast busy (now (request .entry)) (now (reply .entry)) ⌝ }
 {
     let done = node::packet(
@@ -182,7 +183,8 @@ pub fn packet(
         kinds,
         curves,
         functions,
-        groups,
+        made,
+        sets,
         own,
         multicast,
         busy,
@@ -192,9 +194,11 @@ pub fn packet(
         reply,
     );
     let ending = done.outcome;
-    let groups = done.groups;
     let outcome = outcome_of(ending);
-    PlainDone { outcome, groups }
+    PlainDone {
+        outcome,
+        count: done.count,
+    }
 }
 
 pub fn function_result(
@@ -204,7 +208,8 @@ pub fn function_result(
     kinds: &[u8; 64],
     curves: &[u32],
     functions: &[u8],
-    groups: Groups,
+    made: u64,
+    sets: &[u64; 5],
     values: &[u8],
     blocks: &[u8],
     function: usize,
@@ -215,6 +220,7 @@ pub fn function_result(
     reply: &mut [u8],
 ) -> PlainOutcome
     ensures { λ r. let records = recordsBy count (now (writable .entry)) (now (sizes .entry)) (now (kinds .entry)) in
+        let groups = groupsBy made (now (sets .entry)) in
         let board = lending (recordsOf records) (now (curves .entry)) (now (functions .entry)) groups (now (values .entry)) (now (blocks .entry)) in
         ⌜ plainResultLeft r (now (reply .exit)) ≡ resultOf board function due failed error (now (output .entry)) (now (reply .entry)) ⌝ }
 {
@@ -226,7 +232,8 @@ pub fn function_result(
         kinds,
         curves,
         functions,
-        groups,
+        made,
+        sets,
         values,
         blocks,
         FunctionNumber(function),
@@ -245,13 +252,15 @@ pub fn board_store(
     kinds: &[u8; 64],
     curves: &[u32],
     functions: &[u8],
-    groups: Groups,
+    made: u64,
+    sets: &[u64; 5],
     values: &mut [u8],
     blocks: &[u8],
     variable: usize,
     bytes: &[u8],
 ) -> u8
     ensures { λ r. let records = recordsBy count (now (writable .entry)) (now (sizes .entry)) (now (kinds .entry)) in
+        let groups = groupsBy made (now (sets .entry)) in
         let board = lending (recordsOf records) (now (curves .entry)) (now (functions .entry)) groups (now (values .entry)) (now (blocks .entry)) in
         ⌜ plainBytesLeft r (now (values .exit)) ≡ storeOf board variable (now (bytes .entry)) ⌝ }
 {
@@ -262,7 +271,8 @@ pub fn board_store(
         kinds,
         curves,
         functions,
-        groups,
+        made,
+        sets,
         values,
         blocks,
         VariableNumber(variable),

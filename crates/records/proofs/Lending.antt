@@ -16,7 +16,7 @@ use Rattle.bsmp.specs.declared.Curve.{Curve}
 use Rattle.bsmp.specs.declared.Function.{Function}
 use Rattle.records.specs.declared.Records.{Records}
 use Rattle.records.specs.declared.Groups.{Groups}
-use Rattle.records.specs.Lending.{numbered, recordsBy, recordAt, writableMarks, curveAt, functionAt, recordsOf, curvesOf, functionsOf, groupsOf}
+use Rattle.records.specs.Lending.{numbered, recordsBy, recordAt, writableMarks, curveAt, functionAt, recordsOf, curvesOf, functionsOf, groupsBy, groupsOf}
 use Rattle.records.proofs.Walk.{length-numbered, numbered-at, padded-whole, padded-broken}
 
 -- the first n numbers of a list
@@ -108,7 +108,7 @@ module _ (g : Groups) where
   unfolding groupsOf
   groups-lent h = take-numbered (g .sets) (g .count) h
 
-  -- one more, and none
+  -- one more
   pub groups-with : (m : ℕ) → g .count < length (g .sets) → groupsOf (record { count = g .count + 1; sets = set (g .sets) (g .count) m }) ≡ groupsOf g ++ (m ∷ [])
   unfolding groupsOf
   groups-with m h =
@@ -117,6 +117,14 @@ module _ (g : Groups) where
       ∙ take-suc-set (g .sets) (g .count) m h
       ∙ ap (λ (l : List ℕ). l ++ (m ∷ [])) (sym (groups-lent (omega arith)))
 
+-- the same by the count and the places
+pub made-count : (n : ℕ) (ps : List ℕ) → n ≡ length (groupsOf (groupsBy n ps))
+made-count n ps = group-count (groupsBy n ps)
+
+pub made-at : (n : ℕ) (ps : List ℕ) (i : ℕ) → i < n → getD ps i 0 ≡ getD (groupsOf (groupsBy n ps)) i 0
+made-at n ps = group-at (groupsBy n ps)
+
+-- .. and none
 pub groups-without : (l : List ℕ) → groupsOf (record { count = 0; sets = l }) ≡ []
 unfolding groupsOf
 groups-without l = refl

@@ -12,6 +12,7 @@ use Rattle.bsmp.specs.declared.Curve.{Curve}
 use Rattle.bsmp.specs.declared.Function.{Function}
 use Rattle.records.specs.declared.Records.{Records}
 use Rattle.records.specs.declared.Groups.{Groups}
+use Rattle.records.specs.declared.Entry.{Entry}
 
 -- n things, numbered from 0
 abbrev pub numbered : {A : Type 0} → (ℕ → A) → ℕ → List A
@@ -51,9 +52,17 @@ functionAt ns f =
 unfoldable pub functionsOf : List ℕ → List Function
 functionsOf ns = numbered (functionAt ns) ((length ns + 1) / 2)
 
+-- a group table, by its count and its places
+abbrev pub groupsBy : (count : ℕ) → (sets : List ℕ) → Groups
+groupsBy n gs = record { count = n; sets = gs }
+
 -- the made groups, each as marks; more than there are places for count as empty sets, which break the rules
 unfoldable pub groupsOf : Groups → List ℕ
 groupsOf g = numbered (λ i. getD (g .sets) i 0) (g .count)
+
+-- how a group goes into a table of so many: one more, at the first place behind them
+abbrev pub entryOf : (count members : ℕ) → Entry
+entryOf n m = record { count = n + 1; place = n; set = m }
 
 abbrev pub tableOf : Records → (curves functions : List ℕ) → Table
 tableOf r cs fs = record { variables = recordsOf r; curves = curvesOf cs; functions = functionsOf fs }

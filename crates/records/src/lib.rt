@@ -6,15 +6,15 @@ use bsmp::FunctionNumber;
 use bsmp::Variable;
 ghost use mathlib.Core.Path.{_≡_};
 ghost use mathlib.Core.Bool.{true, _&&_};
-ghost use mathlib.Core.List.{[], _∷_, _++_};
+ghost use mathlib.Core.List.{[], _∷_};
 ghost use Prim.Native.Nat.{_+_, _-_, _%_, _^_, _≤_, _<_};
 ghost use lib.Dec.{eqb, ltb};
-ghost use lib.ListN.{length, take, getD, set};
+ghost use lib.ListN.{length, take, getD};
 ghost use Rattle.bsmp.specs.Base.{sum, some, every, within};
 ghost use Rattle.bsmp.specs.Codes.{kindOf};
 ghost use Rattle.bsmp.specs.Store.{held};
 ghost use Rattle.bsmp.specs.Board.{isType, sizesOf, blankCurve, blankFunction, fitsKind, usableVariable, usableVariables, usableCurve, usableCurves, usableFunctions, usableGroups, layout, usable};
-ghost use Rattle.records.specs.Lending.{recordsBy, recordsOf, writableMarks, curvesOf, functionsOf, groupsOf, tableOf, lent};
+ghost use Rattle.records.specs.Lending.{recordsBy, recordsOf, writableMarks, curvesOf, functionsOf, groupsBy, groupsOf, entryOf, tableOf, lent};
 ghost use Rattle.records.specs.Checks.{variablesTotal, usableFrom, curveBytes, curvesTotal};
 
 // The variable records by columns; of the places from `count` on, nothing counts.
@@ -30,6 +30,13 @@ pub struct Records {
 pub struct Groups {
     pub count: u64,
     pub sets: [u64; 5],
+}
+
+// A group that goes into the table: the count with it, and what it writes into which place.
+pub struct Entry {
+    pub count: u64,
+    pub place: usize,
+    pub set: u64,
 }
 
 // Of usable records: the bytes that they add up to, in a number that has 32 bits on every target.
@@ -371,16 +378,16 @@ fn usable_group(set: u64, variables: usize) -> bool
 }
 
 // The rules of the made groups.
-pub fn usable_groups(groups: Groups, variables: usize) -> bool
-    ensures { λ r. ⌜ r ≡ usableGroups variables (groupsOf groups) ⌝ }
+pub fn usable_groups(made: u64, sets: &[u64; 5], variables: usize) -> bool
+    ensures { λ r. ⌜ r ≡ usableGroups variables (groupsOf (groupsBy made (now (sets .entry)))) ⌝ }
 {
-    if 5 < groups.count {
+    if 5 < made {
         return false;
     }
-    let n = groups.count as usize;
+    let n = made as usize;
     let mut i = 0;
     while i < n {
-        if !usable_group(groups.sets[i], variables) {
+        if !usable_group(sets[i], variables) {
             return false;
         }
         i += 1;
@@ -388,25 +395,28 @@ pub fn usable_groups(groups: Groups, variables: usize) -> bool
     true
 }
 
+// What becomes of a group table, by value: of its count, and of the one place that changes with it. Whoever has the table behind `&mut`
+// stores that.
 impl Groups {
+    pub const NONE: u64 = 0;
+
     // One group more.
-    pub fn create(self, members: u64) -> Groups
-        requires { ⌜ self .count < 5 ⌝ }
-        ensures { λ r. ⌜ (groupsOf r ≡ groupsOf self ++ (members ∷ [])) × (r .sets ≡ set (self .sets) (self .count) members) ⌝ }
+    pub fn create(count: u64, members: u64) -> Entry
+        requires { ⌜ count < 5 ⌝ }
+        ensures { λ r. ⌜ r ≡ entryOf count members ⌝ }
     {
-        let n = self.count;
-        let mut next = self;
-        next.sets[n as usize] = members;
-        next.count = n + 1;
-        next
+        Entry {
+            count: count + 1,
+            place: count as usize,
+            set: members,
+        }
     }
 
     // No group; the places keep what they held.
-    pub fn remove(self) -> Groups
-        ensures { λ r. ⌜ (groupsOf r ≡ []) × (r .sets ≡ self .sets) ⌝ }
+    pub fn remove() -> u64
+        ensures { λ r. ⌜ r ≡ 0 ⌝ }
     {
-        let sets = self.sets;
-        Groups { count: 0, sets }
+        Groups::NONE
     }
 }
 
@@ -418,13 +428,15 @@ pub fn usable_board(
     kinds: &[u8; 64],
     curves: &[u32],
     functions: &[u8],
-    groups: Groups,
+    made: u64,
+    sets: &[u64; 5],
     values: &[u8],
     blocks: &[u8],
 ) -> bool
     ensures { λ r. let records = recordsBy count (now (writable .entry)) (now (sizes .entry)) (now (kinds .entry)) in
         let t = tableOf records (now (curves .entry)) (now (functions .entry)) in
-        ⌜ r ≡ usable t (held (layout t) (lent (now (values .entry)) (now (blocks .entry)) (groupsOf groups))) ⌝ }
+        let groups = groupsOf (groupsBy made (now (sets .entry))) in
+        ⌜ r ≡ usable t (held (layout t) (lent (now (values .entry)) (now (blocks .entry)) groups)) ⌝ }
 {
     let variables_total = usable_records(count, writable, sizes, kinds);
     if !variables_total.usable {
@@ -443,7 +455,7 @@ pub fn usable_board(
     if !usable_functions(functions) {
         return false;
     }
-    usable_groups(groups, count)
+    usable_groups(made, sets, count)
 }
 
 // The same as `usable_board`, for packets: it has one caller, since the compiler takes only such a function into the entry whole.
@@ -454,13 +466,15 @@ pub fn quick_board(
     kinds: &[u8; 64],
     curves: &[u32],
     functions: &[u8],
-    groups: Groups,
+    made: u64,
+    sets: &[u64; 5],
     values: &[u8],
     blocks: &[u8],
 ) -> bool
     ensures { λ r. let records = recordsBy count (now (writable .entry)) (now (sizes .entry)) (now (kinds .entry)) in
         let t = tableOf records (now (curves .entry)) (now (functions .entry)) in
-        ⌜ r ≡ usable t (held (layout t) (lent (now (values .entry)) (now (blocks .entry)) (groupsOf groups))) ⌝ }
+        let groups = groupsOf (groupsBy made (now (sets .entry))) in
+        ⌜ r ≡ usable t (held (layout t) (lent (now (values .entry)) (now (blocks .entry)) groups)) ⌝ }
 {
     if !quick_variables(count, writable, sizes, kinds, values.len()) {
         return false;
@@ -472,7 +486,7 @@ pub fn quick_board(
     if curves_total.bytes as usize != blocks.len() {
         return false;
     }
-    if !usable_groups(groups, count) {
+    if !usable_groups(made, sets, count) {
         return false;
     }
     usable_functions(functions)

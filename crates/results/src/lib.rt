@@ -3,7 +3,6 @@ use bsmp::FunctionNumber;
 use bsmp::Outcome;
 use bsmp::Refusal;
 use bsmp::VariableNumber;
-use records::Groups;
 ghost use mathlib.Core.Path.{_≡_};
 ghost use mathlib.Core.Bool.{true};
 ghost use Prim.Native.Nat.{_≤_};
@@ -13,7 +12,7 @@ ghost use Rattle.bsmp.specs.Board.{layout, faults};
 ghost use Rattle.bsmp.specs.Packet.{ends, ranSays, resultTests, storeTests, functionResult, boardStore};
 ghost use Rattle.bsmp.specs.Store.{held};
 ghost use Rattle.bsmp.specs.declared.Outcome.the-variants.{Reply};
-ghost use Rattle.records.specs.Lending.{groupsOf, recordsBy, tableOf, lent};
+ghost use Rattle.records.specs.Lending.{groupsBy, groupsOf, recordsBy, tableOf, lent};
 ghost use Rattle.results.specs.Results.{ranOf, ranPayload, resultLeft, resultLeftOf, storeLeft, storeLeftOf};
 ghost use Rattle.results.specs.declared.Judged.the-variants.{Pass, Refuse};
 
@@ -48,7 +47,8 @@ fn judge_result(
     kinds: &[u8; 64],
     curves: &[u32],
     functions: &[u8],
-    groups: Groups,
+    made: u64,
+    sets: &[u64; 5],
     values: &[u8],
     blocks: &[u8],
     function: FunctionNumber,
@@ -58,7 +58,8 @@ fn judge_result(
 ) -> Judged
     ensures { λ r. let records = recordsBy count (now (writable .entry)) (now (sizes .entry)) (now (kinds .entry)) in
         let table = tableOf records (now (curves .entry)) (now (functions .entry)) in
-        let state = held (layout table) (lent (now (values .entry)) (now (blocks .entry)) (groupsOf groups)) in
+        let groups = groupsOf (groupsBy made (now (sets .entry))) in
+        let state = held (layout table) (lent (now (values .entry)) (now (blocks .entry)) groups) in
         ⌜ r ≡ first (faults table state) Refuse (first (resultTests (layout table) room function (ranOf ran (now (output .entry)))) Refuse Pass) ⌝ }
 {
     let usable = records::usable_board(
@@ -68,7 +69,8 @@ fn judge_result(
         kinds,
         curves,
         functions,
-        groups,
+        made,
+        sets,
         values,
         blocks,
     );
@@ -118,7 +120,8 @@ pub fn function_result(
     kinds: &[u8; 64],
     curves: &[u32],
     functions: &[u8],
-    groups: Groups,
+    made: u64,
+    sets: &[u64; 5],
     values: &[u8],
     blocks: &[u8],
     function: FunctionNumber,
@@ -129,7 +132,8 @@ pub fn function_result(
 ) -> Outcome
     ensures { λ r. let records = recordsBy count (now (writable .entry)) (now (sizes .entry)) (now (kinds .entry)) in
         let table = tableOf records (now (curves .entry)) (now (functions .entry)) in
-        let state = held (layout table) (lent (now (values .entry)) (now (blocks .entry)) (groupsOf groups)) in
+        let groups = groupsOf (groupsBy made (now (sets .entry))) in
+        let state = held (layout table) (lent (now (values .entry)) (now (blocks .entry)) groups) in
         let was = now (reply .entry) in
         ⌜ resultLeft r (now (reply .exit))
         ≡ resultLeftOf (functionResult table (length was) function due (ranOf ran (now (output .entry))) state .ending) was ⌝ }
@@ -142,7 +146,8 @@ pub fn function_result(
         kinds,
         curves,
         functions,
-        groups,
+        made,
+        sets,
         values,
         blocks,
         function,
@@ -169,7 +174,8 @@ fn judge_store(
     kinds: &[u8; 64],
     curves: &[u32],
     functions: &[u8],
-    groups: Groups,
+    made: u64,
+    sets: &[u64; 5],
     values: &[u8],
     blocks: &[u8],
     variable: VariableNumber,
@@ -177,7 +183,8 @@ fn judge_store(
 ) -> Judged
     ensures { λ r. let records = recordsBy count (now (writable .entry)) (now (sizes .entry)) (now (kinds .entry)) in
         let table = tableOf records (now (curves .entry)) (now (functions .entry)) in
-        let state = held (layout table) (lent (now (values .entry)) (now (blocks .entry)) (groupsOf groups)) in
+        let groups = groupsOf (groupsBy made (now (sets .entry))) in
+        let state = held (layout table) (lent (now (values .entry)) (now (blocks .entry)) groups) in
         ⌜ r ≡ first (faults table state) Refuse (first (storeTests (layout table) variable (now (bytes .entry))) Refuse Pass) ⌝ }
 {
     let usable = records::usable_board(
@@ -187,7 +194,8 @@ fn judge_store(
         kinds,
         curves,
         functions,
-        groups,
+        made,
+        sets,
         values,
         blocks,
     );
@@ -213,7 +221,8 @@ pub fn board_store(
     kinds: &[u8; 64],
     curves: &[u32],
     functions: &[u8],
-    groups: Groups,
+    made: u64,
+    sets: &[u64; 5],
     values: &mut [u8],
     blocks: &[u8],
     variable: VariableNumber,
@@ -221,7 +230,8 @@ pub fn board_store(
 ) -> Stored
     ensures { λ r. let records = recordsBy count (now (writable .entry)) (now (sizes .entry)) (now (kinds .entry)) in
         let table = tableOf records (now (curves .entry)) (now (functions .entry)) in
-        let state = held (layout table) (lent (now (values .entry)) (now (blocks .entry)) (groupsOf groups)) in
+        let groups = groupsOf (groupsBy made (now (sets .entry))) in
+        let state = held (layout table) (lent (now (values .entry)) (now (blocks .entry)) groups) in
         ⌜ storeLeft r (now (values .exit)) ≡ storeLeftOf (boardStore table variable (now (bytes .entry)) state) ⌝ }
 {
     let judged = judge_store(
@@ -231,7 +241,8 @@ pub fn board_store(
         kinds,
         curves,
         functions,
-        groups,
+        made,
+        sets,
         values,
         blocks,
         variable,

@@ -8,4 +8,9 @@ pub packet-spec : {M : Type 1} → statement M
 packet-spec =
     tie.close
     (tie.spec
-    (λ c κs. search needs) (λ c κs. search (packet-fits, needs)) (λ c. search needs) (λ c. search needs) (λ c. search needs) (λ c. search (packet-left, needs)))
+    (λ c κs. search needs)
+    -- what was lent is more than a search goes through: it is told what the work said
+    (λ c κs.
+    let d = c .before .before .before .before .before .before .before in
+    packet-fits _ _ _ _ _ _ _ _ _ _ _ _ _ (d .carry .ensures .0) (d .carry .ensures .1))
+    (λ c. search needs) (λ c. search needs) (λ c. search needs) (λ c. search (packet-left, needs)))
