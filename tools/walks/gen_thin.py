@@ -169,7 +169,7 @@ use prog.Wp.{Heap, Calls, Loops, WpFn, Tables}
 use ghost.Atoms.{Atoms, sem}
 use contract.Monad.{Fun, fact, factI}
 use types.Kit.{Go, Given, Item, ‵, raw, _⊛_, ⋆, mean, some, given, later, _$_, _∵_, !, qed, by, move, keep, drop, group, use0, use1, split, pick, learn, rewrite, fsplit, fsplit3, fjoin3, feqL, feqI, check, show, suffices, frame, await, updating, now as at-once, done}
-use types.Run.{lit, look, look-raw, store-raw, init, forget, stop, hop, fld, from, load, of-opd, addr, and-then, no-more, assigns, land, returns, enter, alloc1, alloc0, params1, pass1, pass0, free1, free0}
+use types.Run.{lit, look, init, forget, stop, hop, fld, from, load, of-opd, addr, and-then, no-more, assigns, land, returns, enter, alloc1, alloc0, params1, pass1, pass0, free1, free0}
 use types.Part.{Part, whole, sub, look-in, store-in, agg, rep}
 use types.SemTy.{Body}
 use sound.WpLaws.{FmC, fmOf, WpFn-mono}
@@ -532,8 +532,8 @@ for p in reads:
         cx.move(f"bor-{n}", f"t-{n}"); flush()
         w(I + f"looks ! tt {R.spelt()} {R.copy} h-{n} b-{n} o-{n} (λ q′-{n} vs-{n}. spelt ! {R.spelt()} q′-{n} h-{n} vs-{n} b-{n} o-{n} $ move ! (1 ∷ []) $ peeks ! {R.sh()} h-{n} ({m} ∷ []) (λ was-{n}. move ! (1 ∷ 0 ∷ []) $"); par += 2
         cx.c[0:2] = [f"cell-{n}", f"own-{n}", f"open-{n}", f"bor-{n}"]
-    back(); c = cx.pos(f"cell-{n}"); cx.step(mapped(p, c, of_state(q), f"(map-id {of_state(p['places'])})"))
-    cx.step(f"assigns ! (of-opd ! (load ! (from ! (hop ! (look ! {at(n)} refl) (fld ! refl (stop !)))) (look-in ! {c} (sub ! 0 refl (whole !))))) (from ! (stop !)) (init ! {at('#g' + n)} refl {q['R'].typed(of_state(q), had_field(q))})"); flush()
+    back(); cell = cx.pos(f"cell-{n}"); cx.step(mapped(p, cell, of_state(q), f"(map-id {of_state(p['places'])})"))
+    cx.step(f"assigns ! (of-opd ! (load ! (from ! (hop ! (look ! {at(n)} refl) (fld ! refl (stop !)))) (look-in ! {cell} (sub ! 0 refl (whole !))))) (from ! (stop !)) (init ! {at('#g' + n)} refl {q['R'].typed(of_state(q), had_field(q))})"); flush()
     note()
 for p in given:
     n = p["name"]

@@ -14,10 +14,10 @@ use Rattle.bsmp.specs.declared.Variable.{Variable}
 use Rattle.bsmp.proofs.Bools.{and-true}
 use Rattle.lists.specs.Put.{put}
 use Rattle.lists.proofs.Put.{set-put}
-use Rattle.records.specs.Lending.{recordsBy, recordsOf, groupsBy, groupsOf, entryOf, tableOf, lent}
+use Rattle.records.specs.Lending.{recordsBy, recordsOf, groupsBy, groupsOf, newGroupOf, tableOf, lent}
 use Rattle.records.specs.declared.Records.{Records}
 use Rattle.records.specs.declared.Groups.{Groups}
-use Rattle.records.specs.declared.Entry.{Entry}
+use Rattle.records.specs.declared.NewGroup.{NewGroup}
 use Rattle.records.proofs.Lending.{record-count, sizes-lent, types-lent, group-count, group-at, groups-lent, made-count}
 use Rattle.records.proofs.Whole.{layout-lent}
 use Rattle.records.proofs.Sound as R
@@ -83,8 +83,8 @@ module _ (r : Regroup) (n : ℕ) (ps : List ℕ) (h : Fits r (groupsBy n ps)) wh
   pub group-room : (m : ℕ) → r ≡ Make m → n < 5
   group-room m e = h .room m e
 
-  pub entry-place : (m set : ℕ) (e : Entry) → r ≡ Make m → e ≡ entryOf n set → e .place < 5
-  entry-place m set e k q = rw q (h .room m k)
+  pub new-place : (m set : ℕ) (e : NewGroup) → r ≡ Make m → e ≡ newGroupOf n set → e .place < 5
+  new-place m set e k q = rw q (h .room m k)
 
   abbrev after : Groups
   after = tableWith (regrouped r (groupsOf (groupsBy n ps))) (groupsBy n ps)
@@ -92,7 +92,7 @@ module _ (r : Regroup) (n : ℕ) (ps : List ℕ) (h : Fits r (groupsBy n ps)) wh
   pub regroup-keep : r ≡ Keep → groupsBy n ps ≡ after
   regroup-keep e = rw e (table-same (groupsBy n ps) (h .places))
 
-  pub regroup-make : (m : ℕ) (e : Entry) → r ≡ Make m → e ≡ entryOf n m → groupsBy (e .count) (set ps (e .place) (e .set)) ≡ after
+  pub regroup-make : (m : ℕ) (e : NewGroup) → r ≡ Make m → e ≡ newGroupOf n m → groupsBy (e .count) (set ps (e .place) (e .set)) ≡ after
   regroup-make m e k q = ap (λ y. groupsBy (y .count) (set ps (y .place) (y .set))) q ∙ rw k (table-with n ps (h .places) m (h .room m k))
 
   pub regroup-remove : (x : ℕ) → r ≡ Remove → x ≡ 0 → groupsBy x ps ≡ after

@@ -42,11 +42,11 @@ fn regroup(made: u64, sets: &mut [u64; 5], r: Regroup) -> u64
     match r {
         Regroup::Keep => made,
         Regroup::Make(members) => {
-            let entry = Groups::create(made, members);
-            let place = entry.place;
-            let set = entry.set;
+            let group = Groups::create(made, members);
+            let place = group.place;
+            let set = group.set;
             sets[place] = set;
-            entry.count
+            group.count
         }
         Regroup::Remove => Groups::remove(),
     }

@@ -1,13 +1,12 @@
 -- The lists that a board lends: how long they are, what stands at a number, and the same as a part of what is lent. Assumes nothing.
 use mathlib.Core.Path.{_≡_, refl, sym, ap, _∙_}
 use mathlib.Core.Bool.{Bool, true, false}
-use mathlib.Core.List.{List, [], _∷_, _++_, map, map-map}
+use mathlib.Core.List.{List, _∷_, map, map-map}
 use Prim.Native.Nat.{ℕ, zero, suc, _+_, _*_, _/_, _≤_, _<_}
 use native.Mathlib.Omega.{arith}
-use native.Mathlib.Numerals.{add-one}
 use lib.Dec.{ltb}
-use lib.ListN.{length, take, drop, set, getD, length-set, List·getD-eq-default}
-use lib.Seq.{drop-cons, take-suc-set}
+use lib.ListN.{length, take, drop, getD, List·getD-eq-default}
+use lib.Seq.{drop-cons}
 use borrow.Author.Tests.{ltb-true, ltb-false}
 use Rattle.bsmp.specs.Base.{upFrom, marksOf}
 use Rattle.bsmp.specs.Board.{isWritable, blankCurve, blankFunction, sizesOf, writableOf}
@@ -108,23 +107,9 @@ module _ (g : Groups) where
   unfolding groupsOf
   groups-lent h = take-numbered (g .sets) (g .count) h
 
-  -- one more
-  pub groups-with : (m : ℕ) → g .count < length (g .sets) → groupsOf (record { count = g .count + 1; sets = set (g .sets) (g .count) m }) ≡ groupsOf g ++ (m ∷ [])
-  unfolding groupsOf
-  groups-with m h =
-      take-numbered (set (g .sets) (g .count) m) (g .count + 1) (simp length-set (omega arith))
-      ∙ ap (λ (n : ℕ). take n (set (g .sets) (g .count) m)) (add-one (g .count))
-      ∙ take-suc-set (g .sets) (g .count) m h
-      ∙ ap (λ (l : List ℕ). l ++ (m ∷ [])) (sym (groups-lent (omega arith)))
-
 -- the same by the count and the places
 pub made-count : (n : ℕ) (ps : List ℕ) → n ≡ length (groupsOf (groupsBy n ps))
 made-count n ps = group-count (groupsBy n ps)
 
 pub made-at : (n : ℕ) (ps : List ℕ) (i : ℕ) → i < n → getD ps i 0 ≡ getD (groupsOf (groupsBy n ps)) i 0
 made-at n ps = group-at (groupsBy n ps)
-
--- .. and none
-pub groups-without : (l : List ℕ) → groupsOf (record { count = 0; sets = l }) ≡ []
-unfolding groupsOf
-groups-without l = refl

@@ -12,7 +12,7 @@ use Rattle.bsmp.specs.declared.Curve.{Curve}
 use Rattle.bsmp.specs.declared.Function.{Function}
 use Rattle.records.specs.declared.Records.{Records}
 use Rattle.records.specs.declared.Groups.{Groups}
-use Rattle.records.specs.declared.Entry.{Entry}
+use Rattle.records.specs.declared.NewGroup.{NewGroup}
 
 -- n things, numbered from 0
 abbrev pub numbered : {A : Type 0} → (ℕ → A) → ℕ → List A
@@ -61,8 +61,8 @@ unfoldable pub groupsOf : Groups → List ℕ
 groupsOf g = numbered (λ i. getD (g .sets) i 0) (g .count)
 
 -- how a group goes into a table of so many: one more, at the first place behind them
-abbrev pub entryOf : (count members : ℕ) → Entry
-entryOf n m = record { count = n + 1; place = n; set = m }
+abbrev pub newGroupOf : (count members : ℕ) → NewGroup
+newGroupOf n m = record { count = n + 1; place = n; set = m }
 
 abbrev pub tableOf : Records → (curves functions : List ℕ) → Table
 tableOf r cs fs = record { variables = recordsOf r; curves = curvesOf cs; functions = functionsOf fs }

@@ -14,7 +14,7 @@ ghost use Rattle.bsmp.specs.Base.{sum, some, every, within};
 ghost use Rattle.bsmp.specs.Codes.{kindOf};
 ghost use Rattle.bsmp.specs.Store.{held};
 ghost use Rattle.bsmp.specs.Board.{isType, sizesOf, blankCurve, blankFunction, fitsKind, usableVariable, usableVariables, usableCurve, usableCurves, usableFunctions, usableGroups, layout, usable};
-ghost use Rattle.records.specs.Lending.{recordsBy, recordsOf, writableMarks, curvesOf, functionsOf, groupsBy, groupsOf, entryOf, tableOf, lent};
+ghost use Rattle.records.specs.Lending.{recordsBy, recordsOf, writableMarks, curvesOf, functionsOf, groupsBy, groupsOf, newGroupOf, tableOf, lent};
 ghost use Rattle.records.specs.Checks.{variablesTotal, usableFrom, curveBytes, curvesTotal};
 
 // The variable records by columns; of the places from `count` on, nothing counts.
@@ -33,7 +33,7 @@ pub struct Groups {
 }
 
 // A group that goes into the table: the count with it, and what it writes into which place.
-pub struct Entry {
+pub struct NewGroup {
     pub count: u64,
     pub place: usize,
     pub set: u64,
@@ -401,11 +401,11 @@ impl Groups {
     pub const NONE: u64 = 0;
 
     // One group more.
-    pub fn create(count: u64, members: u64) -> Entry
+    pub fn create(count: u64, members: u64) -> NewGroup
         requires { ⌜ count < 5 ⌝ }
-        ensures { λ r. ⌜ r ≡ entryOf count members ⌝ }
+        ensures { λ r. ⌜ r ≡ newGroupOf count members ⌝ }
     {
-        Entry {
+        NewGroup {
             count: count + 1,
             place: count as usize,
             set: members,
