@@ -11,7 +11,7 @@
 #include <string.h>
 
 #ifndef MOST_STACK
-#define MOST_STACK 1024
+#define MOST_STACK 640
 #endif
 
 /* ---- The board: 64 variables of 4,096 bytes, 8 curves of 65,536, 16 functions, five groups of all 64 ---- */
