@@ -37,7 +37,8 @@ fi
 
 install_missing() { # PACKAGES
     local missing=() name
-    for name in "$@"; do dpkg -s "$name" >/dev/null 2>&1 || missing+=("$name"); done
+    # a package that was removed may still be known to dpkg by its settings
+    for name in "$@"; do dpkg-query -W -f '${db:Status-Status}\n' "$name" 2>/dev/null | grep -qx installed || missing+=("$name"); done
     [ ${#missing[@]} -eq 0 ] || with_lists apt_install "${missing[@]}"
 }
 
