@@ -78,7 +78,7 @@ pub record Closable (s : Spoken) (b : List ℕ) : Type 0 where
   pub short : (c n : ℕ) → s ≡ Reply c n → n ≤ 4099
   pub room : 4104 ≤ length b
 
--- a group table with room for what a message makes
+-- a group table of 5 places, with room for what a message makes
 pub record Fits (r : Regroup) (g : Groups) : Type 0 where
   pub room : (m : ℕ) → r ≡ Make m → g .count < 5
   pub places : length (g .sets) ≡ 5

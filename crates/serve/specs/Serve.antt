@@ -21,7 +21,8 @@ use Rattle.changes.specs.declared.Regroup.{Regroup}
 use Rattle.answers.specs.Answers.{spokenOf, Spoke}
 use Rattle.answers.specs.declared.Spoken.{Spoken}
 
--- whether a command looks at which variables are writable: those that list, show or write variables or groups
+-- whether a command looks at which variables are writable: those that list or write variables, and those that look into a group, since
+-- groups 1 and 2 are the read-only variables and the writable ones
 abbrev pub looksAtTypes : Command → Bool
 looksAtTypes Version = false
 looksAtTypes ListVariables = true
