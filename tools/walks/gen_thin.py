@@ -169,7 +169,7 @@ use prog.Wp.{Heap, Calls, Loops, WpFn, Tables}
 use ghost.Atoms.{Atoms, sem}
 use contract.Monad.{Fun, fact, factI}
 use types.Kit.{Go, Given, Item, ‵, raw, _⊛_, ⋆, mean, some, given, later, _$_, _∵_, !, qed, by, move, keep, drop, group, use0, use1, split, pick, learn, rewrite, fsplit, fsplit3, fjoin3, feqL, feqI, check, show, suffices, frame, await, updating, now as at-once, done}
-use types.Run.{lit, look, init, forget, stop, hop, fld, from, load, of-opd, addr, and-then, no-more, assigns, land, returns, enter, alloc1, alloc0, params1, pass1, pass0, free1, free0}
+use types.Run.{lit, look, init, stop, hop, fld, from, load, of-opd, addr, and-then, no-more, assigns, land, returns, enter, params1, pass1, pass0}
 use types.Part.{Part, whole, sub, look-in, store-in, agg, rep}
 use types.SemTy.{Body}
 use sound.WpLaws.{FmC, fmOf, WpFn-mono}
@@ -195,7 +195,7 @@ for u in t["uses"] + sd["uses"] + [u for p in reads for u in p["held"]["uses"]]:
 w("use " + module(t["lending"]) + ".{AreColumns, blanks, blanks-are, blank-typed, Places, places, Loan, Loans, lft, token, ref, byMut, keptMut, last, shared, keptShared, Cells, Tokens, Each, lends-mut, mut-back, lends-shared, shared-back}")
 for p in reads: w("use " + module(p["held"]["lending"]) + ".{AreNumbers, numbersVal, placesRef, lentPlaces, lastPlaces, keptPlaces, lends-places, places-back, shownPlaces, keptShown, shows-places, shown-back}")
 for d in declared: w(f"use {part_of(crate_of(d), 'specs')}.declared.{d}.{{{d}}}")
-w("use " + module(t["walk"]) + ".{down, span}")
+w("use " + module(t["walk"]) + ".{span, enters, holds, leaves}")
 for d, m in declared.items(): w(f"use {part_of(crate_of(d), 'proofs')}.{d} as {m}"); w(f"use {part_of(crate_of(d), 'proofs')}.{d}.Laws as {m}′")
 w("use " + module(t["fn"]) + " as table-of")
 w()
@@ -482,7 +482,7 @@ cx = Cx(["toks", "owns"], I); splits(cx, [f"t-{p['name']}" for p in refs] + ["tr
 for p in reads: n = p["name"]; cx.move(f"O-{n}"); cx.step("fsplit3 !"); cx.c[0:1] = ["eq", f"obs-{n}", f"bor-{n}"]; cx.drop()
 res = [x for p in refs for x in ([f"obs-{p['name']}", f"bor-{p['name']}"] if p in reads else [f"O-{p['name']}"])] + [f"t-{p['name']}" for p in refs]
 cx.keep(*res); w(cx.text(f"enter ! C Λ (function {KT}) ({margs}) _ $")); par = 0
-w(I + "".join(f"alloc1 ! (λ l-{i}. " for i in range(N)) + f"alloc0 ! $ move ! (down {N}) $ params1 ! $"); par += N
+w(I + f"enters ! (λ {' '.join(f'l-{i}' for i in range(N))}. params1 ! $"); par += 1
 fits = lambda p: f"(tt, (tt, (record {{ fits = g-{p['name']} .0 }}, tt)))"
 w(I + " $ ".join([f"pass1 ! (init ! {2 * loc[p['name']]} refl {fits(p) if p in sl else '(tt, tt)' if p in reads else p['R'].typed(p['name'], 'is-' + p['name'])})" for p in P] + ["pass0 !"]) + " $")
 LOC = [f"_{i}{s}" for i in range(N) for s in ("", "†")]
@@ -573,9 +573,7 @@ for p in sts:
     n = p["name"]; R = p["R"]; cx.move(f"cell-{n}", f"open-{n}", f"obs-{n}", f"auth-{n}"); cx.step(mapped(p, 0, new_number(p), f"(sym (map-id ({fins('y', p['places'])})))")); cx.owned(R.own(fst[n], f"({n}-left y (e .is) are-{n})"), "own"); cx.move(f"cell-{n}", "own")
     cx.step(f"closes ! tt {R.row} {fst[n]} ({R.mach(fst[n])} ∷ []) b-{n} o-{n}"); cx.c[0:5] = [f"obs-{n}", f"bor-{n}", f"t-{n}"]; back(); flush()
 note()
-cx.step("returns ! (look ! 0 refl)")
-for i in range(N): cx.step(f"forget ! {2 * i} refl")
-flush(); cx.s = ["free1 !"] * N + ["free0 !"]; cx.c = cx.c[2 * N:]; cx.keep(*ex0); w(cx.text("by ! (exits u′ y e)" + ")" * par)); w()
+cx.step("returns ! (look ! 0 refl)"); cx.step("leaves W (" + lst([f"(_, l-{i}, holds _)" for i in range(N)]) + ")"); flush(); cx.c = cx.c[2 * N:]; cx.keep(*ex0); w(cx.text("by ! (exits u′ y e)" + ")" * par)); w()
 # ---------------------------------------------------------------- to the contract
 w(HEAD + " where")
 trT = "Triple 𝓤 (C kt) (TableOf 𝓤 H A at-mem run) → "; kn = "known-table known-work"

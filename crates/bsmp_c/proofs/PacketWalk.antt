@@ -18,7 +18,7 @@ use prog.Wp.{Heap, Calls, Loops, WpFn, Tables}
 use ghost.Atoms.{Atoms, sem}
 use contract.Monad.{Fun, fact}
 use types.Kit.{Go, Given, Item, ‵, raw, _⊛_, ⋆, mean, some, given, later, _$_, _∵_, !, qed, by, move, keep, drop, group, use1, split, pick, learn, rewrite, fsplit, fsplit3, fjoin3, feqL, feqI, check, show, suffices, frame, await, updating, now as at-once, done}
-use types.Run.{lit, look, init, forget, stop, hop, fld, from, load, of-opd, addr, and-then, no-more, assigns, land, returns, enter, alloc1, alloc0, params1, pass1, pass0, free1, free0}
+use types.Run.{lit, look, init, stop, hop, fld, from, load, of-opd, addr, and-then, no-more, assigns, land, returns, enter, params1, pass1, pass0}
 use types.Part.{Part, whole, sub, look-in, store-in, agg, rep}
 use types.SemTy.{Body}
 use sound.WpLaws.{FmC, fmOf, WpFn-mono}
@@ -49,7 +49,7 @@ use Rattle.columns.proofs.Within.{AreNumbers, numbersVal, placesRef, lentPlaces
 use Rattle.plain.specs.declared.PlainDone.{PlainDone}
 use Rattle.bsmp.specs.declared.Variable.{Variable}
 use Rattle.records.specs.declared.Groups.{Groups}
-use Rattle.columns.proofs.Walk.{down, span}
+use Rattle.columns.proofs.Walk.{span, enters, holds, leaves}
 use Rattle.plain.proofs.PlainOutcome as M0
 use Rattle.plain.proofs.PlainOutcome.Laws as M0′
 use Rattle.plain.proofs.PlainDone as M1
@@ -258,7 +258,7 @@ module _ (turnOf : TurnOf) (agree : Agree turnOf) (kt kc : Name) {M : Type 1} (�
     walk g-variables g-curves g-functions g-values g-blocks g-request g-reply =
         qed W ((‵ (flft κ-variables q-variables) ⊛ ‵ (flft κ-curves q-curves) ⊛ ‵ (flft κ-functions q-functions) ⊛ ‵ (flft κ-groups q-groups) ⊛ ‵ (flft κ-values q-values) ⊛ ‵ (flft κ-blocks q-blocks) ⊛ ‵ (flft κ-request q-request) ⊛ ‵ (flft κ-reply q-reply) ⊛ ‵ ftrue) ∷ (‵ O-variables ⊛ ‵ O-curves ⊛ ‵ O-functions ⊛ ‵ (MutRef (named 3) κ-groups M3.the-row .own x-groups (vptr b-groups o-groups ∷ [])) ⊛ ‵ (u8 .own own (vint w8 own ∷ [])) ⊛ ‵ (u8 .own multicast (vint w8 multicast ∷ [])) ⊛ ‵ (u64 .own busy (vint w64 busy ∷ [])) ⊛ ‵ O-values ⊛ ‵ O-blocks ⊛ ‵ O-request ⊛ ‵ O-reply ⊛ ‵ ftrue) ∷ []) ∵
         split ! $ move ! (1 ∷ []) $ split ! $ move ! (1 ∷ []) $ split ! $ move ! (1 ∷ []) $ split ! $ move ! (1 ∷ []) $ split ! $ move ! (1 ∷ []) $ split ! $ move ! (1 ∷ []) $ split ! $ move ! (1 ∷ []) $ split ! $ move ! (9 ∷ []) $ split ! $ move ! (1 ∷ []) $ split ! $ move ! (1 ∷ []) $ split ! $ move ! (1 ∷ []) $ split ! $ move ! (1 ∷ []) $ split ! $ move ! (1 ∷ []) $ split ! $ move ! (1 ∷ []) $ split ! $ move ! (1 ∷ []) $ split ! $ move ! (1 ∷ []) $ split ! $ move ! (1 ∷ []) $ split ! $ move ! (1 ∷ []) $ split ! $ move ! (8 ∷ []) $ fsplit3 ! $ drop ! $ keep ! (12 ∷ 11 ∷ 10 ∷ 0 ∷ 1 ∷ 6 ∷ 5 ∷ 4 ∷ 2 ∷ 21 ∷ 20 ∷ 19 ∷ 18 ∷ 17 ∷ 16 ∷ 15 ∷ 13 ∷ []) $ enter ! C Λ (function kt kc) (slice variables ∷ slice curves ∷ slice functions ∷ vptr b-groups o-groups ∷ vint w8 own ∷ vint w8 multicast ∷ vint w64 busy ∷ slice values ∷ slice blocks ∷ slice request ∷ slice reply ∷ []) _ $
-        alloc1 ! (λ l-0. alloc1 ! (λ l-1. alloc1 ! (λ l-2. alloc1 ! (λ l-3. alloc1 ! (λ l-4. alloc1 ! (λ l-5. alloc1 ! (λ l-6. alloc1 ! (λ l-7. alloc1 ! (λ l-8. alloc1 ! (λ l-9. alloc1 ! (λ l-10. alloc1 ! (λ l-11. alloc1 ! (λ l-12. alloc1 ! (λ l-13. alloc1 ! (λ l-14. alloc1 ! (λ l-15. alloc1 ! (λ l-16. alloc1 ! (λ l-17. alloc1 ! (λ l-18. alloc1 ! (λ l-19. alloc1 ! (λ l-20. alloc1 ! (λ l-21. alloc1 ! (λ l-22. alloc1 ! (λ l-23. alloc1 ! (λ l-24. alloc1 ! (λ l-25. alloc1 ! (λ l-26. alloc1 ! (λ l-27. alloc1 ! (λ l-28. alloc1 ! (λ l-29. alloc1 ! (λ l-30. alloc0 ! $ move ! (down 31) $ params1 ! $
+        enters ! (λ l-0 l-1 l-2 l-3 l-4 l-5 l-6 l-7 l-8 l-9 l-10 l-11 l-12 l-13 l-14 l-15 l-16 l-17 l-18 l-19 l-20 l-21 l-22 l-23 l-24 l-25 l-26 l-27 l-28 l-29 l-30. params1 ! $
         pass1 ! (init ! 2 refl (tt, (tt, (record { fits = g-variables .0 }, tt)))) $ pass1 ! (init ! 4 refl (tt, (tt, (record { fits = g-curves .0 }, tt)))) $ pass1 ! (init ! 6 refl (tt, (tt, (record { fits = g-functions .0 }, tt)))) $ pass1 ! (init ! 8 refl (tt, tt)) $ pass1 ! (init ! 10 refl (tt, record { fits = is-own .1 })) $ pass1 ! (init ! 12 refl (tt, record { fits = is-multicast .1 })) $ pass1 ! (init ! 14 refl (tt, record { fits = is-busy .1 })) $ pass1 ! (init ! 16 refl (tt, (tt, (record { fits = g-values .0 }, tt)))) $ pass1 ! (init ! 18 refl (tt, (tt, (record { fits = g-blocks .0 }, tt)))) $ pass1 ! (init ! 20 refl (tt, (tt, (record { fits = g-request .0 }, tt)))) $ pass1 ! (init ! 22 refl (tt, (tt, (record { fits = g-reply .0 }, tt)))) $ pass0 ! $
         -- [the locals; O-variables; O-curves; O-functions; obs-groups; bor-groups; O-values; O-blocks; O-request; O-reply; t-variables; t-curves; t-functions; t-groups; t-values; t-blocks; t-request; t-reply]
         assigns ! (rep ! 64 (lit ! tt)) (from ! (stop !)) (init ! 24 refl (blank-typed 𝓤 H A W)) $
@@ -313,8 +313,8 @@ module _ (turnOf : TurnOf) (agree : Agree turnOf) (kt kc : Name) {M : Type 1} (�
         assigns ! (of-opd ! (load ! (from ! (fld ! refl (stop !))) (look-in ! 34 (sub ! 0 refl (whole !))))) (from ! (stop !)) (init ! 0 refl (LL.lawful M0.the-type M0′.the-laws 𝓤 H A W .typed (y .0 .outcome) _ (out-is (y .0) (e .is)) .0)) $
         move ! (62 ∷ 65 ∷ 66 ∷ 67 ∷ []) $ rewrite ! 0 (λ (xs : List ℕ). Cell-groups fullShare (y .0 .count) (numbersVal w64 xs)) (sym (map-id (y .1 .0))) refl $ owned ! M3.the-row (Is M3.the-row) (LL.makes M3.the-type M3′.the-plain 𝓤 H A) (groupsBy (y .0 .count) (y .1 .0)) _ (groups-left y (e .is) are-groups) $ move ! (1 ∷ 0 ∷ []) $ closes ! tt M3.the-row (groupsBy (y .0 .count) (y .1 .0)) (LL.val M3.the-type M3′.the-laws (groupsBy (y .0 .count) (y .1 .0)) ∷ []) b-groups o-groups $ move ! (span 3 62) $
         -- [the locals; obs-groups; bor-groups; t-groups; had; copies; t-variables; O-variables]
-        returns ! (look ! 0 refl) $ forget ! 0 refl $ forget ! 2 refl $ forget ! 4 refl $ forget ! 6 refl $ forget ! 8 refl $ forget ! 10 refl $ forget ! 12 refl $ forget ! 14 refl $ forget ! 16 refl $ forget ! 18 refl $ forget ! 20 refl $ forget ! 22 refl $ forget ! 24 refl $ forget ! 26 refl $ forget ! 28 refl $ forget ! 30 refl $ forget ! 32 refl $ forget ! 34 refl $ forget ! 36 refl $ forget ! 38 refl $ forget ! 40 refl $ forget ! 42 refl $ forget ! 44 refl $ forget ! 46 refl $ forget ! 48 refl $ forget ! 50 refl $ forget ! 52 refl $ forget ! 54 refl $ forget ! 56 refl $ forget ! 58 refl $ forget ! 60 refl $
-        free1 ! $ free1 ! $ free1 ! $ free1 ! $ free1 ! $ free1 ! $ free1 ! $ free1 ! $ free1 ! $ free1 ! $ free1 ! $ free1 ! $ free1 ! $ free1 ! $ free1 ! $ free1 ! $ free1 ! $ free1 ! $ free1 ! $ free1 ! $ free1 ! $ free1 ! $ free1 ! $ free1 ! $ free1 ! $ free1 ! $ free1 ! $ free1 ! $ free1 ! $ free1 ! $ free1 ! $ free0 ! $ keep ! (0 ∷ 1 ∷ 2 ∷ 3 ∷ 4 ∷ 5 ∷ 6 ∷ []) $ by ! (exits u′ y e)))))))))))))))))))))))))))))))))))))))))))))
+        returns ! (look ! 0 refl) $ leaves W ((_, l-0, holds _) ∷ (_, l-1, holds _) ∷ (_, l-2, holds _) ∷ (_, l-3, holds _) ∷ (_, l-4, holds _) ∷ (_, l-5, holds _) ∷ (_, l-6, holds _) ∷ (_, l-7, holds _) ∷ (_, l-8, holds _) ∷ (_, l-9, holds _) ∷ (_, l-10, holds _) ∷ (_, l-11, holds _) ∷ (_, l-12, holds _) ∷ (_, l-13, holds _) ∷ (_, l-14, holds _) ∷ (_, l-15, holds _) ∷ (_, l-16, holds _) ∷ (_, l-17, holds _) ∷ (_, l-18, holds _) ∷ (_, l-19, holds _) ∷ (_, l-20, holds _) ∷ (_, l-21, holds _) ∷ (_, l-22, holds _) ∷ (_, l-23, holds _) ∷ (_, l-24, holds _) ∷ (_, l-25, holds _) ∷ (_, l-26, holds _) ∷ (_, l-27, holds _) ∷ (_, l-28, holds _) ∷ (_, l-29, holds _) ∷ (_, l-30, holds _) ∷ []) $
+        keep ! (0 ∷ 1 ∷ 2 ∷ 3 ∷ 4 ∷ 5 ∷ 6 ∷ []) $ by ! (exits u′ y e)))))))))))))))
 
 module _ (turnOf : TurnOf) (agree : Agree turnOf) (kt kc : Name) {M : Type 1} (𝓤 : URA M) (H : Heap 𝓤) (A : Atoms 𝓤) (W : Given 𝓤 H A) (at-mem : Memory → SProp 𝓤) (run : Routine → Fun 𝓤) where
   f-walks : (C : Calls 𝓤 H) (Λ : Loops 𝓤 H) → FmC 𝓤 H (W .laws) C → Triple 𝓤 (C kt) (TableOf 𝓤 H A at-mem run) → Triple 𝓤 (C kc) (Work 𝓤 H A turnOf) → Walks 𝓤 H A ended stayed (WpFn 𝓤 H C Λ (function kt kc)) (clauses turnOf 𝓤)

@@ -19,7 +19,7 @@ use prog.Wp.{Heap, Calls, Loops, WpFn, Tables}
 use ghost.Atoms.{Atoms, sem}
 use contract.Monad.{Fun, fact}
 use types.Kit.{Go, Given, Item, ‵, raw, _⊛_, ⋆, mean, some, given, later, _$_, _∵_, !, qed, by, move, keep, drop, group, use1, split, pick, learn, rewrite, fsplit, fsplit3, fjoin3, feqL, feqI, check, show, suffices, frame, await, updating, now as at-once, done}
-use types.Run.{lit, look, init, forget, stop, hop, fld, from, load, of-opd, addr, and-then, no-more, assigns, land, returns, enter, alloc1, alloc0, params1, pass1, pass0, free1, free0}
+use types.Run.{lit, look, init, stop, hop, fld, from, load, of-opd, addr, and-then, no-more, assigns, land, returns, enter, params1, pass1, pass0}
 use types.Part.{Part, whole, sub, look-in, agg, rep}
 use sound.WpLaws.{FmC, fmOf, WpFn-mono}
 use denote.Laws.{Is, shows}
@@ -49,7 +49,7 @@ use Rattle.columns.proofs.Within.{AreNumbers, numbersVal, placesRef, shownPlace
 use Rattle.plain.specs.declared.PlainOutcome.{PlainOutcome}
 use Rattle.bsmp.specs.declared.Variable.{Variable}
 use Rattle.records.specs.declared.Groups.{Groups}
-use Rattle.columns.proofs.Walk.{down, span}
+use Rattle.columns.proofs.Walk.{span, enters, holds, leaves}
 use Rattle.plain.proofs.PlainOutcome as M0
 use Rattle.plain.proofs.PlainOutcome.Laws as M0′
 use Rattle.bsmp.proofs.Variable as M1
@@ -238,7 +238,7 @@ module _ (turnOf : TurnOf) (agree : Agree turnOf) (kt kc : Name) {M : Type 1} (�
     walk g-variables g-curves g-functions g-values g-blocks g-output g-reply =
         qed W ((‵ (flft κ-variables q-variables) ⊛ ‵ (flft κ-curves q-curves) ⊛ ‵ (flft κ-functions q-functions) ⊛ ‵ (flft κ-groups q-groups) ⊛ ‵ (flft κ-values q-values) ⊛ ‵ (flft κ-blocks q-blocks) ⊛ ‵ (flft κ-output q-output) ⊛ ‵ (flft κ-reply q-reply) ⊛ ‵ ftrue) ∷ (‵ O-variables ⊛ ‵ O-curves ⊛ ‵ O-functions ⊛ ‵ (ShrRef (named 3) κ-groups M2.the-row .own x-groups (vptr b-groups o-groups ∷ [])) ⊛ ‵ O-values ⊛ ‵ O-blocks ⊛ ‵ (usize .own number (vint w64 number ∷ [])) ⊛ ‵ (Boolean .own due (vbool due ∷ [])) ⊛ ‵ (Boolean .own failed (vbool failed ∷ [])) ⊛ ‵ (u8 .own error (vint w8 error ∷ [])) ⊛ ‵ O-output ⊛ ‵ O-reply ⊛ ‵ ftrue) ∷ []) ∵
         split ! $ move ! (1 ∷ []) $ split ! $ move ! (1 ∷ []) $ split ! $ move ! (1 ∷ []) $ split ! $ move ! (1 ∷ []) $ split ! $ move ! (1 ∷ []) $ split ! $ move ! (1 ∷ []) $ split ! $ move ! (1 ∷ []) $ split ! $ move ! (9 ∷ []) $ split ! $ move ! (1 ∷ []) $ split ! $ move ! (1 ∷ []) $ split ! $ move ! (1 ∷ []) $ split ! $ move ! (1 ∷ []) $ split ! $ move ! (1 ∷ []) $ split ! $ move ! (1 ∷ []) $ split ! $ move ! (1 ∷ []) $ split ! $ move ! (1 ∷ []) $ split ! $ move ! (1 ∷ []) $ split ! $ move ! (1 ∷ []) $ split ! $ move ! (1 ∷ []) $ split ! $ move ! (9 ∷ []) $ fsplit3 ! $ drop ! $ keep ! (13 ∷ 12 ∷ 11 ∷ 0 ∷ 1 ∷ 10 ∷ 9 ∷ 4 ∷ 2 ∷ 22 ∷ 21 ∷ 20 ∷ 19 ∷ 18 ∷ 17 ∷ 16 ∷ 14 ∷ []) $ enter ! C Λ (function kt kc) (slice variables ∷ slice curves ∷ slice functions ∷ vptr b-groups o-groups ∷ slice values ∷ slice blocks ∷ vint w64 number ∷ vbool due ∷ vbool failed ∷ vint w8 error ∷ slice output ∷ slice reply ∷ []) _ $
-        alloc1 ! (λ l-0. alloc1 ! (λ l-1. alloc1 ! (λ l-2. alloc1 ! (λ l-3. alloc1 ! (λ l-4. alloc1 ! (λ l-5. alloc1 ! (λ l-6. alloc1 ! (λ l-7. alloc1 ! (λ l-8. alloc1 ! (λ l-9. alloc1 ! (λ l-10. alloc1 ! (λ l-11. alloc1 ! (λ l-12. alloc1 ! (λ l-13. alloc1 ! (λ l-14. alloc1 ! (λ l-15. alloc1 ! (λ l-16. alloc1 ! (λ l-17. alloc1 ! (λ l-18. alloc1 ! (λ l-19. alloc1 ! (λ l-20. alloc1 ! (λ l-21. alloc1 ! (λ l-22. alloc1 ! (λ l-23. alloc1 ! (λ l-24. alloc1 ! (λ l-25. alloc1 ! (λ l-26. alloc0 ! $ move ! (down 27) $ params1 ! $
+        enters ! (λ l-0 l-1 l-2 l-3 l-4 l-5 l-6 l-7 l-8 l-9 l-10 l-11 l-12 l-13 l-14 l-15 l-16 l-17 l-18 l-19 l-20 l-21 l-22 l-23 l-24 l-25 l-26. params1 ! $
         pass1 ! (init ! 2 refl (tt, (tt, (record { fits = g-variables .0 }, tt)))) $ pass1 ! (init ! 4 refl (tt, (tt, (record { fits = g-curves .0 }, tt)))) $ pass1 ! (init ! 6 refl (tt, (tt, (record { fits = g-functions .0 }, tt)))) $ pass1 ! (init ! 8 refl (tt, tt)) $ pass1 ! (init ! 10 refl (tt, (tt, (record { fits = g-values .0 }, tt)))) $ pass1 ! (init ! 12 refl (tt, (tt, (record { fits = g-blocks .0 }, tt)))) $ pass1 ! (init ! 14 refl (tt, record { fits = is-number .1 })) $ pass1 ! (init ! 16 refl (tt, tt)) $ pass1 ! (init ! 18 refl (tt, tt)) $ pass1 ! (init ! 20 refl (tt, record { fits = is-error .1 })) $ pass1 ! (init ! 22 refl (tt, (tt, (record { fits = g-output .0 }, tt)))) $ pass1 ! (init ! 24 refl (tt, (tt, (record { fits = g-reply .0 }, tt)))) $ pass0 ! $
         -- [the locals; O-variables; O-curves; O-functions; obs-groups; bor-groups; O-values; O-blocks; O-output; O-reply; t-variables; t-curves; t-functions; t-groups; t-values; t-blocks; t-output; t-reply]
         assigns ! (rep ! 64 (lit ! tt)) (from ! (stop !)) (init ! 26 refl (blank-typed 𝓤 H A W)) $
@@ -287,8 +287,8 @@ module _ (turnOf : TurnOf) (agree : Agree turnOf) (kt kc : Name) {M : Type 1} (�
         split ! $ move ! (1 ∷ []) $ split ! $ move ! (span 6 26 ++ (2 ∷ 32 ∷ 0 ∷ 33 ∷ 1 ∷ span 34 23)) $ land ! (from ! (stop !)) (init ! 0 refl (subst (λ (w : Val). Holds (hasTy M0′.mir w) × WT w) (sym (e .val)) (LL.lawful M0.the-type M0′.the-laws 𝓤 H A W .typed (y .0) _ (e .is) .0))) $ rewrite ! 0 (λ (w : Val). ‵ (fat fullShare M0′.mir l-0 0 w)) (e .val) refl $
         -- [the locals; t-groups; had; copies; bor-groups; t-variables; O-variables; obs-groups]
         -- [the locals; t-groups; had; copies; bor-groups; t-variables; O-variables; obs-groups]
-        returns ! (look ! 0 refl) $ forget ! 0 refl $ forget ! 2 refl $ forget ! 4 refl $ forget ! 6 refl $ forget ! 8 refl $ forget ! 10 refl $ forget ! 12 refl $ forget ! 14 refl $ forget ! 16 refl $ forget ! 18 refl $ forget ! 20 refl $ forget ! 22 refl $ forget ! 24 refl $ forget ! 26 refl $ forget ! 28 refl $ forget ! 30 refl $ forget ! 32 refl $ forget ! 34 refl $ forget ! 36 refl $ forget ! 38 refl $ forget ! 40 refl $ forget ! 42 refl $ forget ! 44 refl $ forget ! 46 refl $ forget ! 48 refl $ forget ! 50 refl $ forget ! 52 refl $
-        free1 ! $ free1 ! $ free1 ! $ free1 ! $ free1 ! $ free1 ! $ free1 ! $ free1 ! $ free1 ! $ free1 ! $ free1 ! $ free1 ! $ free1 ! $ free1 ! $ free1 ! $ free1 ! $ free1 ! $ free1 ! $ free1 ! $ free1 ! $ free1 ! $ free1 ! $ free1 ! $ free1 ! $ free1 ! $ free1 ! $ free1 ! $ free0 ! $ keep ! (6 ∷ 3 ∷ 0 ∷ 1 ∷ 2 ∷ 4 ∷ 5 ∷ []) $ by ! (exits u′ y e)))))))))))))))))))))))))))))))))))))))))
+        returns ! (look ! 0 refl) $ leaves W ((_, l-0, holds _) ∷ (_, l-1, holds _) ∷ (_, l-2, holds _) ∷ (_, l-3, holds _) ∷ (_, l-4, holds _) ∷ (_, l-5, holds _) ∷ (_, l-6, holds _) ∷ (_, l-7, holds _) ∷ (_, l-8, holds _) ∷ (_, l-9, holds _) ∷ (_, l-10, holds _) ∷ (_, l-11, holds _) ∷ (_, l-12, holds _) ∷ (_, l-13, holds _) ∷ (_, l-14, holds _) ∷ (_, l-15, holds _) ∷ (_, l-16, holds _) ∷ (_, l-17, holds _) ∷ (_, l-18, holds _) ∷ (_, l-19, holds _) ∷ (_, l-20, holds _) ∷ (_, l-21, holds _) ∷ (_, l-22, holds _) ∷ (_, l-23, holds _) ∷ (_, l-24, holds _) ∷ (_, l-25, holds _) ∷ (_, l-26, holds _) ∷ []) $
+        keep ! (6 ∷ 3 ∷ 0 ∷ 1 ∷ 2 ∷ 4 ∷ 5 ∷ []) $ by ! (exits u′ y e)))))))))))))))
 
 module _ (turnOf : TurnOf) (agree : Agree turnOf) (kt kc : Name) {M : Type 1} (𝓤 : URA M) (H : Heap 𝓤) (A : Atoms 𝓤) (W : Given 𝓤 H A) (at-mem : Memory → SProp 𝓤) (run : Routine → Fun 𝓤) where
   f-walks : (C : Calls 𝓤 H) (Λ : Loops 𝓤 H) → FmC 𝓤 H (W .laws) C → Triple 𝓤 (C kt) (TableOf 𝓤 H A at-mem run) → Triple 𝓤 (C kc) (Work 𝓤 H A turnOf) → Walks 𝓤 H A ended stayed (WpFn 𝓤 H C Λ (function kt kc)) (clauses turnOf 𝓤)

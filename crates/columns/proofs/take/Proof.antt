@@ -26,7 +26,7 @@ use contract.Monad.{Fun, fact}
 use contract.Running.{givenOf, tables, tablesOf}
 use types.Kit.{Given, Item, ‵, raw, _⊛_, ⋆, some, later, runs, anyQ, atRet, Sq, _$_, _∵_, !, qed, by, move, keep, drop, use0, use1, split, group, join, pick, rewrite, fsplit, fsplit3, fjoin, fjoin3, feqI, suffices, frame, await, done}
 use types.Part.{whole, sub, look-in, store-in}
-use types.Run.{look, look-raw, store, init, forget, stop, hop, fld, from, load, lit, of-opd, bin, addr, and-then, no-more, assigns, assigns-last, land, first, skips, jumps, blocks, branches, returns, enter, alloc1, alloc0, params1, pass1, pass0, free1, free0, exec, Below, again, loops}
+use types.Run.{look, look-raw, store, init, forget, stop, hop, fld, from, load, lit, of-opd, bin, addr, and-then, no-more, assigns, assigns-last, land, first, skips, jumps, blocks, branches, returns, enter, params1, pass1, pass0, exec, Below, again, loops}
 use types.Share.{arr-parts}
 use sound.WpLaws.{FmC, fmOf, WpFn-mono}
 use denote.RattleType.{owns}
@@ -57,7 +57,7 @@ use Rattle.records.specs.declared.Records.{Records}
 use Rattle.bsmp.proofs.Variable as R
 use Rattle.bsmp.proofs.Variable.Laws as R′
 use Rattle.records.specs.Lending.{recordsBy}
-use Rattle.columns.proofs.Walk.{down, span}
+use Rattle.columns.proofs.Walk.{span, enters, empty, holds, leaves}
 use Rattle.columns.proofs.Byte.{byte, set-map, bytes-set}
 use Rattle.columns.proofs.Lent.{Column, columnTy, bytes, columnVal, IsColumn, AreColumns}
 use Rattle.columns.proofs.Columns.{columns-whole}
@@ -304,8 +304,7 @@ module _ {M : Type 1} (𝓤 : URA M) (H : Heap 𝓤) (A : Atoms 𝓤) (W : Given
           closes ! tt Column (z .sizes) (columnVal (z .sizes) ∷ []) bs os $ move ! (span 3 38) $
           move ! (48 ∷ 49 ∷ 50 ∷ 51 ∷ []) $ owned ! Column (Is Column) (array-makes 𝓤 H A W u8 (uint-makes 𝓤 H A W w8) 64) (z .kinds) _ (full over .1 .1) $ move ! (1 ∷ 0 ∷ []) $
           closes ! tt Column (z .kinds) (columnVal (z .kinds) ∷ []) bk ok $ move ! (span 3 38) $
-          returns ! (look ! 0 refl) $ forget ! 0 refl $ forget ! 2 refl $ forget ! 4 refl $ forget ! 6 refl $ forget ! 8 refl $ forget ! 10 refl $ forget ! 12 refl $ forget ! 18 refl $
-          free1 ! $ free1 ! $ free1 ! $ free1 ! $ free1 ! $ free1 ! $ free1 ! $ free1 ! $ free1 ! $ free1 ! $ free1 ! $ free1 ! $ free1 ! $ free1 ! $ free1 ! $ free1 ! $ free1 ! $ free1 ! $ free1 ! $ free0 ! $
+          returns ! (look ! 0 refl) $ leaves W ((_, l₀, holds _) ∷ (_, l₁, holds _) ∷ (_, l₂, holds _) ∷ (_, l₃, holds _) ∷ (_, l₄, holds _) ∷ (_, l₅, holds _) ∷ (_, l₆, holds _) ∷ (_, l₇, empty) ∷ (_, l₈, empty) ∷ (_, l₉, holds _) ∷ (_, l₁₀, empty) ∷ (_, l₁₁, empty) ∷ (_, l₁₂, empty) ∷ (_, l₁₃, empty) ∷ (_, l₁₄, empty) ∷ (_, l₁₅, empty) ∷ (_, l₁₆, empty) ∷ (_, l₁₇, empty) ∷ (_, l₁₈, empty) ∷ []) $
           -- [kinds, sizes, writable: seen, borrow, token; the token; the fractured borrow; res; the slice's fact]
           move ! (11 ∷ 10 ∷ []) $ fjoin ! $ move ! (11 ∷ 0 ∷ []) $ fjoin ! $ by ! exits)
         where
@@ -344,7 +343,7 @@ module _ {M : Type 1} (𝓤 : URA M) (H : Heap 𝓤) (A : Atoms 𝓤) (W : Given
         fsplit3 ! $ drop ! $ move ! (3 ∷ []) $ fsplit3 ! $ drop ! $ move ! (5 ∷ []) $ fsplit3 ! $ drop ! $
         -- [writable: seen, borrow; sizes: seen, borrow; kinds: seen, borrow; true; the slice; kinds' token; true; sizes', writable's, the slice's token]
         keep ! (12 ∷ 7 ∷ 0 ∷ 1 ∷ 11 ∷ 2 ∷ 3 ∷ 10 ∷ 4 ∷ 5 ∷ 8 ∷ []) $ enter ! C Λ code.function (v ∷ vptr bw ow ∷ vptr bs os ∷ vptr bk ok ∷ []) _ $
-        alloc1 ! (λ l₀. alloc1 ! (λ l₁. alloc1 ! (λ l₂. alloc1 ! (λ l₃. alloc1 ! (λ l₄. alloc1 ! (λ l₅. alloc1 ! (λ l₆. alloc1 ! (λ l₇. alloc1 ! (λ l₈. alloc1 ! (λ l₉. alloc1 ! (λ l₁₀. alloc1 ! (λ l₁₁. alloc1 ! (λ l₁₂. alloc1 ! (λ l₁₃. alloc1 ! (λ l₁₄. alloc1 ! (λ l₁₅. alloc1 ! (λ l₁₆. alloc1 ! (λ l₁₇. alloc1 ! (λ l₁₈. alloc0 ! $ move ! (down 19) $ params1 ! $
+        enters ! (λ l₀ l₁ l₂ l₃ l₄ l₅ l₆ l₇ l₈ l₉ l₁₀ l₁₁ l₁₂ l₁₃ l₁₄ l₁₅ l₁₆ l₁₇ l₁₈. params1 ! $
         pass1 ! (init ! 2 refl (tt, (tt, (record { fits = room .0 }, tt)))) $ pass1 ! (init ! 4 refl (tt, tt)) $ pass1 ! (init ! 6 refl (tt, tt)) $ pass1 ! (init ! 8 refl (tt, tt)) $ pass0 ! $
         -- [the locals; the token; the slice; writable, sizes, kinds: seen, borrow, token]
         move ! (40 ∷ 41 ∷ 42 ∷ []) $ opens ! tt Column {h = ws} bw ow (λ usw. spelt ! Column (Is Column) (shows 𝓤 H A Column) (array-vals (uint-vals w8)) (array-tells u8 (uint-vals w8) (uint-tells w8) 64) fullShare ws usw bw ow $ move ! (1 ∷ []) $ facts ! Column (Is Column) (shows 𝓤 H A Column) ws (columnVal ws ∷ []) (λ isw. move ! (span 4 38) $
@@ -363,7 +362,7 @@ module _ {M : Type 1} (𝓤 : URA M) (H : Heap 𝓤) (A : Atoms 𝓤) (W : Given
         land ! (from ! (stop !)) (init ! 10 refl (uint-lawful 𝓤 H A W w64 .typed k _ is .0)) $
         rewrite ! 10 (λ (x : Val). ‵ (fat fullShare (tyInt w64) l₅ 0 x)) (ap only (is .0) ∙ ap (vint w64) d) refl $
         assigns ! (of-opd ! (lit ! tt)) (from ! (stop !)) (init ! 12 refl (tt, record { fits = lit< tt })) $
-        forget ! 16 refl $ looped l₀ l₁ l₂ l₃ l₄ l₅ l₆ l₇ l₈ l₉ l₁₀ l₁₁ l₁₂ l₁₃ l₁₄ l₁₅ l₁₆ l₁₇ l₁₈ (0, (zero-le, subst AreColumns none (isw, (iss, isk)))))))))))))))))))))))))))))))))
+        forget ! 16 refl $ looped l₀ l₁ l₂ l₃ l₄ l₅ l₆ l₇ l₈ l₉ l₁₀ l₁₁ l₁₂ l₁₃ l₁₄ l₁₅ l₁₆ l₁₇ l₁₈ (0, (zero-le, subst AreColumns none (isw, (iss, isk)))))))))))))))
 
 module _ {M : Type 1} (𝓤 : URA M) (H : Heap 𝓤) (A : Atoms 𝓤) (W : Given 𝓤 H A) (mem : Memory → SProp 𝓤) (run : Routine → Fun 𝓤) (𝓣 : Tables 𝓤 H) where
   f-walks : FmC 𝓤 H (W .laws) (𝓣 .C) → Triple 𝓤 (𝓣 .C #columns·stored) (Few 𝓤 H A mem run)
