@@ -20,7 +20,7 @@ use Rattle.lists.proofs.Put.{put-back, put-put, mid-rest, length-part}
 use Rattle.lists.proofs.Pieces.{value-part}
 use Rattle.lists.proofs.Blocks.{cut-fill}
 use Rattle.parts.specs.Parts.{PayloadAt}
-use Rattle.records.specs.Checks.{curveBytes}
+use Rattle.records.specs.Lending.{curveBytes}
 use Rattle.records.proofs.Sound.{curves-small, curve-size}
 use Rattle.records.proofs.Blocks.{block-at, block-size, block-inside, block-room}
 use Rattle.curves.specs.declared.Block.{Block}

@@ -14,7 +14,7 @@ use Rattle.bsmp.specs.declared.Command.the-variants.{ReadBlock, WriteBlock}
 use Rattle.bsmp.proofs.Chain.{broken-at, clear-at}
 use Rattle.parts.specs.Parts.{layoutOf, Passed}
 use Rattle.parts.proofs.Passed.{passed-clear}
-use Rattle.records.proofs.Checks.{inside}
+use Rattle.records.proofs.Bounds.{inside}
 use Rattle.curves.specs.Fits.{namedCurve, BlockRead, BlockFits}
 
 module _ (ns : List ℕ) (w : ℕ) (cs : List Curve) (fs : List Function) (gs p : List ℕ) where

@@ -19,7 +19,7 @@ use Rattle.records.specs.declared.Records.{Records}
 use Rattle.records.specs.declared.Groups.{Groups}
 use Rattle.records.specs.declared.NewGroup.{NewGroup}
 use Rattle.records.proofs.Lending.{record-count, sizes-lent, types-lent, group-count, group-at, groups-lent, made-count}
-use Rattle.records.proofs.Whole.{layout-lent}
+use Rattle.records.proofs.Lending.{layout-lent}
 use Rattle.records.proofs.Sound as R
 use Rattle.variables.proofs.Listing.{sizes-usable}
 use Rattle.judging.specs.Judging.{SoundBoard}

@@ -257,7 +257,7 @@ fn carry(
         × (length (now (sets .entry)) ≡ 5) ⌝ }
 {
     let places = &sets[..];
-    if records::quick_board(
+    if boards::quick_board(
         count,
         writable,
         sizes,

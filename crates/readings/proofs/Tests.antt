@@ -21,12 +21,12 @@ use Rattle.bsmp.proofs.Bools.{and-true, all-at}
 use Rattle.bsmp.proofs.Lists.{every-at}
 use Rattle.bsmp.proofs.Chain.{clear, clear-at, first-case}
 use Rattle.records.specs.Lending.{recordsOf}
-use Rattle.records.specs.Checks.{variablesTotal}
+use Rattle.rules.specs.Totals.{variablesTotal}
 use Rattle.records.specs.declared.Records.{Records}
-use Rattle.records.specs.declared.Total.{Total}
+use Rattle.rules.specs.declared.Total.{Total}
 use Rattle.records.proofs.Lending.{record-count, record-at}
 use Rattle.records.proofs.Sound.{variables-most}
-use Rattle.records.proofs.Whole.{total-usable}
+use Rattle.rules.proofs.Totals.{total-usable}
 use Rattle.numbers.specs.Size.{isSize}
 use Rattle.readings.specs.Answers.{judgedOf}
 use Rattle.readings.specs.declared.Judged.{Judged}

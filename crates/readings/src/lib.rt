@@ -76,7 +76,7 @@ fn judge(
     ensures { λ r. let records = recordsBy count (now (writable .entry)) (now (sizes .entry)) (now (kinds .entry)) in
         ⌜ r ≡ judgedOf (recordsOf records) variable signed bytes ⌝ }
 {
-    if !records::usable_records(count, writable, sizes, kinds).usable {
+    if !rules::usable_records(count, writable, sizes, kinds).usable {
         return Judged::Refused(Refusal::BoardUnusable);
     }
     let at = variable.0;

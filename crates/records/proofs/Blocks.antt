@@ -16,7 +16,7 @@ use Rattle.bsmp.specs.declared.Curve.{Curve}
 use Rattle.bsmp.proofs.Store.{curve-bytes}
 use Rattle.lists.proofs.Sum.{total-append, total-within}
 use Rattle.lists.proofs.Blocks.{block-start}
-use Rattle.records.specs.Checks.{curveBytes}
+use Rattle.records.specs.Lending.{curveBytes}
 use Rattle.records.proofs.Sound.{curves-small}
 
 bytes-append : (xs ys : List Curve) → curveBytes (xs ++ ys) ≡ curveBytes xs + curveBytes ys

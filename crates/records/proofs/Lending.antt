@@ -9,13 +9,13 @@ use lib.ListN.{length, take, drop, getD, List·getD-eq-default}
 use lib.Seq.{drop-cons}
 use borrow.Author.Tests.{ltb-true, ltb-false}
 use Rattle.bsmp.specs.Base.{upFrom, marksOf}
-use Rattle.bsmp.specs.Board.{isWritable, blankCurve, blankFunction, sizesOf, writableOf}
+use Rattle.bsmp.specs.Board.{isWritable, blankCurve, blankFunction, sizesOf, writableOf, layout}
 use Rattle.bsmp.specs.declared.Variable.{Variable}
 use Rattle.bsmp.specs.declared.Curve.{Curve}
 use Rattle.bsmp.specs.declared.Function.{Function}
 use Rattle.records.specs.declared.Records.{Records}
 use Rattle.records.specs.declared.Groups.{Groups}
-use Rattle.records.specs.Lending.{numbered, recordsBy, recordAt, writableMarks, curveAt, functionAt, recordsOf, curvesOf, functionsOf, groupsBy, groupsOf}
+use Rattle.records.specs.Lending.{numbered, recordsBy, recordAt, writableMarks, curveAt, functionAt, recordsOf, curvesOf, functionsOf, tableOf, groupsBy, groupsOf}
 use Rattle.records.proofs.Walk.{length-numbered, numbered-at, padded-whole, padded-broken}
 
 -- the first n numbers of a list
@@ -113,3 +113,8 @@ made-count n ps = group-count (groupsBy n ps)
 
 pub made-at : (n : ℕ) (ps : List ℕ) (i : ℕ) → i < n → getD ps i 0 ≡ getD (groupsOf (groupsBy n ps)) i 0
 made-at n ps = group-at (groupsBy n ps)
+
+-- what messages look at, from the columns of sizes and types
+pub layout-lent : (r : Records) (cs fs : List ℕ) → r .count ≤ length (r .sizes) → r .count ≤ length (r .writable)
+    → record { sizes = take (r .count) (r .sizes); writable = writableMarks (take (r .count) (r .writable)); curves = curvesOf cs; functions = functionsOf fs } ≡ layout (tableOf r cs fs)
+layout-lent r cs fs h k = rw (sizes-lent r h, marks-lent r k)

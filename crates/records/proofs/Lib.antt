@@ -1,11 +1,7 @@
 pub mod Walk
 pub mod Lending
-pub mod Checks
-pub mod Pairs
-pub mod Thirds
-pub mod Pieces
-pub mod Counting
+pub mod Bounds
 pub mod Sound
 pub mod Blocks
-pub mod Whole
+pub mod Marking
 pub mod Unique

@@ -15,9 +15,9 @@ use Rattle.bsmp.specs.declared.Function.{Function}
 use Rattle.bsmp.proofs.Bools.{and-true, all-at}
 use Rattle.bsmp.proofs.Store.{store-length, lengths-cut}
 use Rattle.bsmp.proofs.Usable.{usable-parts, usable-whole}
-use Rattle.records.specs.Checks.{curveBytes}
+use Rattle.records.specs.Lending.{curveBytes}
 use Rattle.bsmp.proofs.Lists.{every-at}
-use Rattle.records.proofs.Checks.{inside, curve-rules, usableFunction, usableGroup}
+use Rattle.records.proofs.Bounds.{inside, curve-rules, usableFunction, usableGroup}
 
 pub record Sound (t : Table) (x : Lent) : Type 0 where
   pub variables : usableVariables (t .variables) ≡ true

@@ -4,7 +4,7 @@ use mathlib.Core.List.{List, map}
 use Prim.Native.Nat.{ℕ, _+_, _*_, _/_}
 use lib.Dec.{ltb}
 use lib.ListN.{length, getD}
-use Rattle.bsmp.specs.Base.{upFrom, marksOf}
+use Rattle.bsmp.specs.Base.{sum, upFrom, marksOf}
 use Rattle.bsmp.specs.Board.{Table, isWritable, blankCurve}
 use Rattle.bsmp.specs.Store.{Lent}
 use Rattle.bsmp.specs.declared.Variable.{Variable}
@@ -41,6 +41,10 @@ curveAt ns c =
 
 unfoldable pub curvesOf : List ℕ → List Curve
 curvesOf ns = numbered (curveAt ns) ((length ns + 2) / 3)
+
+-- the bytes of all blocks of these curves
+abbrev pub curveBytes : List Curve → ℕ
+curveBytes cs = sum (map (λ c. c .size * c .blocks) cs)
 
 -- two numbers for a function: input, output; one left over is one more record, which breaks the rules
 abbrev pub functionAt : List ℕ → ℕ → Function

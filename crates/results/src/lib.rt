@@ -62,7 +62,7 @@ fn judge_result(
         let state = held (layout table) (lent (now (values .entry)) (now (blocks .entry)) groups) in
         ⌜ r ≡ first (faults table state) Refuse (first (resultTests (layout table) room function (ranOf ran (now (output .entry)))) Refuse Pass) ⌝ }
 {
-    let usable = records::usable_board(
+    let usable = boards::usable_board(
         count,
         writable,
         sizes,
@@ -187,7 +187,7 @@ fn judge_store(
         let state = held (layout table) (lent (now (values .entry)) (now (blocks .entry)) groups) in
         ⌜ r ≡ first (faults table state) Refuse (first (storeTests (layout table) variable (now (bytes .entry))) Refuse Pass) ⌝ }
 {
-    let usable = records::usable_board(
+    let usable = boards::usable_board(
         count,
         writable,
         sizes,

@@ -3,8 +3,7 @@ use mathlib.Core.Path.{_≡_}
 use Prim.Native.Nat.{_-_, _≤_}
 use lib.ListN.{take}
 use borrow.Author.Needs.{needs}
-use Rattle.records.specs.Lending.{curvesOf}
-use Rattle.records.specs.Checks.{curveBytes}
+use Rattle.records.specs.Lending.{curvesOf, curveBytes}
 use Rattle.records.proofs.Blocks.{before-start, before-end, before-next, before-mul, before-add}
 use Rattle.records.proofs.blocks_before.Statement.{statement}
 use Rattle.records.proofs.blocks_before.Tie as tie

@@ -1,6 +1,6 @@
 -- `marks_of` meets its contract: one walk over the types. Assumes nothing.
 use borrow.Author.Needs.{needs}
-use Rattle.records.proofs.Counting.{Marking, marking-start, marking-within, type-fits, twice-fits, marks-fit, marking-next, marking-end}
+use Rattle.records.proofs.Marking.{Marking, marking-start, marking-within, type-fits, twice-fits, marks-fit, marking-next, marking-end}
 use Rattle.records.proofs.marks_of.Statement.{statement}
 use Rattle.records.proofs.marks_of.Tie as tie
 

@@ -1,0 +1,175 @@
+// Refusal 1 for the whole board: its records, the lengths of its stores, its groups.
+use bsmp::Variable;
+ghost use mathlib.Core.Path.{_≡_};
+ghost use mathlib.Core.Bool.{_&&_};
+ghost use Prim.Native.Nat.{_+_, _-_, _%_, _≤_};
+ghost use lib.Dec.{eqb};
+ghost use Rattle.bsmp.specs.Base.{sum};
+ghost use Rattle.bsmp.specs.Store.{held};
+ghost use Rattle.bsmp.specs.Board.{sizesOf, usableVariables, layout, usable};
+ghost use Rattle.records.specs.Lending.{recordsBy, recordsOf, groupsBy, groupsOf, tableOf, lent};
+ghost use Rattle.boards.specs.Pieces.{usableFrom};
+
+// Whether the 16 records from `from` on break no rule.
+fn usable_piece(writable: &[u8; 64], sizes: &[u8; 64], kinds: &[u8; 64], from: usize) -> bool
+    requires { ⌜ from + 16 ≤ 64 ⌝ }
+    ensures { λ r. ⌜ r ≡ usableFrom (now (writable .entry)) (now (sizes .entry)) (now (kinds .entry)) from 16 ⌝ }
+{
+    let mut usable = true;
+    let mut i: usize = 0;
+    while i < 16 {
+        let at = from + i;
+        let v = Variable {
+            writable: writable[at],
+            size: sizes[at],
+            kind: kinds[at],
+        };
+        usable = usable & rules::usable_variable(v);
+        i += 1;
+    }
+    usable
+}
+
+// Whether so many records break no rule, 16 at a time.
+fn usable_pieces(whole: usize, writable: &[u8; 64], sizes: &[u8; 64], kinds: &[u8; 64]) -> bool
+    requires { ⌜ (whole ≤ 64) × (whole % 16 ≡ 0) ⌝ }
+    ensures { λ r. ⌜ r ≡ usableFrom (now (writable .entry)) (now (sizes .entry)) (now (kinds .entry)) 0 whole ⌝ }
+{
+    let mut i: usize = 0;
+    while i < whole {
+        if !usable_piece(writable, sizes, kinds, i) {
+            return false;
+        }
+        i += 16;
+    }
+    true
+}
+
+// Whether the records from `from` up to the last break no rule, one by one.
+fn usable_rest(
+    from: usize,
+    count: usize,
+    writable: &[u8; 64],
+    sizes: &[u8; 64],
+    kinds: &[u8; 64],
+) -> bool
+    requires { ⌜ (from ≤ count) × (count ≤ 64) ⌝ }
+    ensures { λ r. ⌜ r ≡ usableFrom (now (writable .entry)) (now (sizes .entry)) (now (kinds .entry)) from (count - from) ⌝ }
+{
+    let mut i = from;
+    while i < count {
+        let v = Variable {
+            writable: writable[i],
+            size: sizes[i],
+            kind: kinds[i],
+        };
+        if !rules::usable_variable(v) {
+            return false;
+        }
+        i += 1;
+    }
+    true
+}
+
+// Whether the variable records break no rule and add up to so many bytes, for packets, which come often: in pieces, and what is left one by one.
+fn quick_variables(
+    count: usize,
+    writable: &[u8; 64],
+    sizes: &[u8; 64],
+    kinds: &[u8; 64],
+    stored: usize,
+) -> bool
+    ensures { λ r. let vs = recordsOf (recordsBy count (now (writable .entry)) (now (sizes .entry)) (now (kinds .entry))) in
+        ⌜ r ≡ (usableVariables vs && eqb (sum (sizesOf vs)) stored) ⌝ }
+{
+    if count < 1 {
+        return false;
+    }
+    if 64 < count {
+        return false;
+    }
+    let whole = count - count % 16;
+    if !usable_pieces(whole, writable, sizes, kinds) {
+        return false;
+    }
+    if !usable_rest(whole, count, writable, sizes, kinds) {
+        return false;
+    }
+    let bytes = lists::offset(sizes, count);
+    if 4096 < bytes {
+        return false;
+    }
+    bytes == stored
+}
+
+// Every rule, one after another.
+pub fn usable_board(
+    count: usize,
+    writable: &[u8; 64],
+    sizes: &[u8; 64],
+    kinds: &[u8; 64],
+    curves: &[u32],
+    functions: &[u8],
+    made: u64,
+    sets: &[u64; 5],
+    values: &[u8],
+    blocks: &[u8],
+) -> bool
+    ensures { λ r. let records = recordsBy count (now (writable .entry)) (now (sizes .entry)) (now (kinds .entry)) in
+        let t = tableOf records (now (curves .entry)) (now (functions .entry)) in
+        let groups = groupsOf (groupsBy made (now (sets .entry))) in
+        ⌜ r ≡ usable t (held (layout t) (lent (now (values .entry)) (now (blocks .entry)) groups)) ⌝ }
+{
+    let variables_total = rules::usable_records(count, writable, sizes, kinds);
+    if !variables_total.usable {
+        return false;
+    }
+    if variables_total.bytes as usize != values.len() {
+        return false;
+    }
+    let curves_total = rules::usable_curves(curves);
+    if !curves_total.usable {
+        return false;
+    }
+    if curves_total.bytes as usize != blocks.len() {
+        return false;
+    }
+    if !rules::usable_functions(functions) {
+        return false;
+    }
+    rules::usable_groups(made, sets, count)
+}
+
+// The same as `usable_board`, for packets: it has one caller, since the compiler takes only such a function into the entry whole.
+pub fn quick_board(
+    count: usize,
+    writable: &[u8; 64],
+    sizes: &[u8; 64],
+    kinds: &[u8; 64],
+    curves: &[u32],
+    functions: &[u8],
+    made: u64,
+    sets: &[u64; 5],
+    values: &[u8],
+    blocks: &[u8],
+) -> bool
+    ensures { λ r. let records = recordsBy count (now (writable .entry)) (now (sizes .entry)) (now (kinds .entry)) in
+        let t = tableOf records (now (curves .entry)) (now (functions .entry)) in
+        let groups = groupsOf (groupsBy made (now (sets .entry))) in
+        ⌜ r ≡ usable t (held (layout t) (lent (now (values .entry)) (now (blocks .entry)) groups)) ⌝ }
+{
+    if !quick_variables(count, writable, sizes, kinds, values.len()) {
+        return false;
+    }
+    let curves_total = rules::usable_curves(curves);
+    if !curves_total.usable {
+        return false;
+    }
+    if curves_total.bytes as usize != blocks.len() {
+        return false;
+    }
+    if !rules::usable_groups(made, sets, count) {
+        return false;
+    }
+    rules::usable_functions(functions)
+}

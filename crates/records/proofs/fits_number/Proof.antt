@@ -1,8 +1,0 @@
--- `fits_number` meets its contract. Assumes nothing.
-use borrow.Author.Needs.{needs}
-use Rattle.records.proofs.Checks.{size-less, size-told}
-use Rattle.records.proofs.fits_number.Statement.{statement}
-use Rattle.records.proofs.fits_number.Tie as tie
-
-pub fits-number-spec : {M : Type 1} → statement M
-fits-number-spec = tie.close (tie.spec (λ c. search (size-less, needs)) (λ c. search (size-told, needs)))

@@ -1,0 +1,5 @@
+pub mod Checks
+pub mod Counting
+pub mod Thirds
+pub mod Pairs
+pub mod Totals
