@@ -65,7 +65,7 @@ fn writes(
         ⌜ r ≡ first (writesGroup l (now (groups .entry)) (now (payload .entry)) front ++ lastTests (some (marked busy) members) false) Fail Pass ⌝ }
 {
     let set = named_set(writable, groups, payload);
-    if payload.len() != front + sets::set_bytes(sizes, set) {
+    if payload.len() != front + members::set_bytes(sizes, set) {
         return Check::Fail(WireError::BadSize);
     }
     let members = sets::declared(set, sizes.len());
@@ -198,7 +198,7 @@ pub fn change(
         ⌜ cut (l .sizes) (now (values .exit)) ≡ edited op members parts (cut (l .sizes) (now (values .entry))) ⌝ }
 {
     let set = named_set(writable, groups, payload);
-    sets::change_members(sizes, set, values, op, payload, front);
+    members::change_members(sizes, set, values, op, payload, front);
 }
 
 // 13: the members' values.
@@ -219,7 +219,7 @@ pub fn tell(
         ⌜ PayloadAt (now (reply .entry)) at (valuesOf (cut (l .sizes) (now (values .entry))) members) r (now (reply .exit)) ⌝ }
 {
     let set = named_set(writable, groups, payload);
-    sets::read_members(sizes, set, values, reply, at)
+    members::read_members(sizes, set, values, reply, at)
 }
 
 // 07: the members' numbers.
@@ -239,7 +239,7 @@ pub fn show(
         ⌜ PayloadAt (now (reply .entry)) at (map (λ i. i .0) members) r (now (reply .exit)) ⌝ }
 {
     let set = named_set(writable, groups, payload);
-    sets::list_members(sizes.len(), set, reply, at)
+    members::list_members(sizes.len(), set, reply, at)
 }
 
 // A group's byte in the list: its top bit on if it's writable, and the member count.

@@ -1,11 +1,12 @@
 -- A packet's work on any board, and the group table that it leaves. Assumes nothing.
 use mathlib.Core.Path.{_≡_, refl, sym, ap, _∙_, subst}
-use mathlib.Core.Bool.{Bool, true, false}
+use mathlib.Core.Bool.{Bool, true, false, not}
 use mathlib.Core.List.{List, [], _∷_, _++_}
 use Prim.Native.Nat.{ℕ, _+_, _-_, _≤_, _<_}
 use borrow.Rule.Slice.PartMut.{midOf}
 use native.Mathlib.Omega.{arith}
 use lib.ListN.{length, length-append}
+use borrow.Author.Tests.{not-true, not-false}
 use Rattle.bsmp.specs.Base.{join, first}
 use Rattle.bsmp.specs.Board.{Table, layout, State, blockSizes, usable}
 use Rattle.bsmp.specs.Packet.{Place, Result, refuse, placeTests, packetTests, isOwn, destination, message, served, packet}
@@ -31,10 +32,13 @@ use Rattle.serve.specs.Serve.{typedLayout}
 use Rattle.changes.specs.Changes.{regrouped}
 use Rattle.changes.specs.declared.Regroup.{Regroup}
 use Rattle.changes.specs.declared.Regroup.the-variants.{Keep, Make}
-use Rattle.node.specs.Promise.{tableWith, packetLeft, packetLeftOf, unopenedOf, frontOf, Fits, BoardReady, EndsAs, CarriedAs}
+use Rattle.node.specs.Promise.{tableWith, packetLeft, packetLeftOf, unopenedOf, frontOf, Fits, BoardReady, Tested, EndsAs, CarriedAs}
 use Rattle.node.proofs.Receiving.{stopped}
 
 -- any board ----------------------------------------------------------------------------------------------------------------------
+pub board-ready : (r : Records) (cs fs : List ℕ) (g : Groups) (vs bs : List ℕ) (u : Bool) → Tested u r cs fs g vs bs → not u ≡ false → BoardReady r cs fs g vs bs
+board-ready r cs fs g vs bs u tested v = tested .ready (not-false u v)
+
 module _ (r : Records) (cs fs : List ℕ) (g : Groups) (vs bs : List ℕ) (own mc busy : ℕ) (p b : List ℕ) (o : Outcome) (q : Regroup) where
   abbrev T : Table
   T = tableOf r cs fs
@@ -45,21 +49,21 @@ module _ (r : Records) (cs fs : List ℕ) (g : Groups) (vs bs : List ℕ) (own m
   abbrev A : Place
   A = placed own mc
 
-  pub carried-unusable : (u : Bool) → u ≡ usable T (held (layout T) X) → u ≡ false → o ≡ O.Refused BoardUnusable → q ≡ Keep → CarriedAs T A busy p X b o q b X
+  pub carried-unusable : (u : Bool) → Tested u r cs fs g vs bs → not u ≡ true → o ≡ O.Refused BoardUnusable → q ≡ Keep → CarriedAs T A busy p X b o q b X
   unfolding packet
-  carried-unusable u checked v e f = record {
-    ends = stopped (layout T) X b _ BoardUnusable o q (faults-some T (held (layout T) X) _ _ _ (sym checked ∙ v) refl) e f;
+  carried-unusable u tested v e f = record {
+    ends = stopped (layout T) X b _ BoardUnusable o q (faults-some T (held (layout T) X) _ _ _ (sym (tested .is) ∙ not-true u v) refl) e f;
   }
 
   -- the packet's tests, on a usable board
-  module _ (ready : BoardReady r cs fs g vs bs) (d : Opened) (e : d ≡ openedOf A (length b) p) where
+  module _ (u : Bool) (tested : Tested u r cs fs g vs bs) (v : not u ≡ false) (d : Opened) (e : d ≡ openedOf A (length b) p) where
     abbrev Work : Result
     Work = served (layout T) busy (isOwn A (destination p)) (message p) (held (layout T) X)
 
     reached : (z : Result) → z ≡ first (placeTests A (length b)) (refuse (held (layout T) X)) (first (packetTests A p) (refuse (held (layout T) X)) Work)
         → z ≡ packet T A busy (length b) p (held (layout T) X)
     unfolding packet
-    reached z h = faults-none T (held (layout T) X) (refuse (held (layout T) X)) _ z (ready .usable-is) h
+    reached z h = faults-none T (held (layout T) X) (refuse (held (layout T) X)) _ z (board-ready r cs fs g vs bs u tested v .usable-is) h
 
     pub carried-unopened : (n : Refusal) → d ≡ Refused n → o ≡ unopenedOf d → q ≡ Keep → CarriedAs T A busy p X b o q b X
     carried-unopened n h f k = record {

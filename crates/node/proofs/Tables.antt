@@ -18,8 +18,7 @@ use Rattle.records.specs.Lending.{recordsBy, recordsOf, groupsBy, groupsOf, new
 use Rattle.records.specs.declared.Records.{Records}
 use Rattle.records.specs.declared.Groups.{Groups}
 use Rattle.records.specs.declared.NewGroup.{NewGroup}
-use Rattle.records.proofs.Lending.{record-count, sizes-lent, types-lent, group-count, group-at, groups-lent, made-count}
-use Rattle.records.proofs.Lending.{layout-lent}
+use Rattle.records.proofs.Lending.{record-count, sizes-lent, types-lent, group-count, group-at, groups-lent, made-count, layout-lent}
 use Rattle.records.proofs.Sound as R
 use Rattle.variables.proofs.Listing.{sizes-usable}
 use Rattle.judging.specs.Judging.{SoundBoard}
@@ -27,7 +26,7 @@ use Rattle.serve.specs.Serve.{typedLayout, SoundTypes}
 use Rattle.changes.specs.Changes.{regrouped}
 use Rattle.changes.specs.declared.Regroup.{Regroup}
 use Rattle.changes.specs.declared.Regroup.the-variants.{Keep, Make, Remove}
-use Rattle.node.specs.Promise.{tableWith, Fits, frontOf, BoardReady}
+use Rattle.node.specs.Promise.{tableWith, Fits, frontOf, BoardReady, Tested}
 
 -- the table of the groups that it holds is the table, whatever its count
 module _ (g : Groups) (five : length (g .sets) ≡ 5) where
@@ -167,7 +166,7 @@ module _ (count : ℕ) (ws ss ks cs fs : List ℕ) (g : Groups) (vs bs : List �
     }
 
     -- all that the work of a packet leans on
-    pub board-ready : BoardReady r cs fs g vs bs
+    board-ready : BoardReady r cs fs g vs bs
     board-ready = record {
       usable-is = is-usable;
       sizes-inside = within-sizes;
@@ -179,3 +178,6 @@ module _ (count : ℕ) (ws ss ks cs fs : List ℕ) (g : Groups) (vs bs : List �
       sound = sound-board;
       sound-types = types-sound;
     }
+
+  pub board-tested : u ≡ usable T (held (layout T) (lent vs bs (groupsOf g))) → length ws ≡ 64 → length ss ≡ 64 → length (g .sets) ≡ 5 → Tested u r cs fs g vs bs
+  board-tested checked types sizes places = record { is = checked; ready = λ v. board-ready checked v types sizes places }

@@ -107,3 +107,8 @@ pub record BoardReady (r : Records) (cs fs : List ℕ) (g : Groups) (vs bs : Lis
   pub groups-are : frontOf (g .count) (g .sets) ≡ groupsOf g
   pub sound : SoundBoard (typedLayout (frontOf (r .count) (r .sizes)) (frontOf (r .count) (r .writable)) cs fs) (lent vs bs (frontOf (g .count) (g .sets)))
   pub sound-types : SoundTypes (frontOf (r .count) (r .writable))
+
+-- what is known of a board that was tested
+pub record Tested (u : Bool) (r : Records) (cs fs : List ℕ) (g : Groups) (vs bs : List ℕ) : Type 0 where
+  pub is : u ≡ usable (tableOf r cs fs) (held (layout (tableOf r cs fs)) (lent vs bs (groupsOf g)))
+  pub ready : u ≡ true → BoardReady r cs fs g vs bs

@@ -18,8 +18,7 @@ ghost use Rattle.serve.specs.Serve.{typedLayout, SoundTypes};
 ghost use Rattle.changes.specs.Changes.{regrouped};
 ghost use Rattle.changes.specs.declared.Regroup.the-variants.{Keep};
 ghost use Rattle.wire.specs.Opening.{placed};
-ghost use Rattle.node.specs.Promise.{tableWith, packetLeft, packetLeftOf, unopenedOf};
-ghost use Rattle.node.specs.Promise.{Closable, Closed, EndsAs, Fits, BoardReady, CarriedAs};
+ghost use Rattle.node.specs.Promise.{tableWith, packetLeft, packetLeftOf, unopenedOf, Closable, Closed, EndsAs, Fits, BoardReady, Tested, CarriedAs};
 
 // How a call ended, and how many groups are made then.
 pub struct Done {
@@ -176,8 +175,44 @@ fn lend(
     )
 }
 
-// A packet on a usable board. Two columns and the groups' places come as slices, since no front is lent of an array that was lent.
+// Whether the board is usable, with all that serving a message on it leans on.
+fn ready(
+    count: usize,
+    writable: &[u8; 64],
+    sizes: &[u8; 64],
+    kinds: &[u8; 64],
+    curves: &[u32],
+    functions: &[u8],
+    made: u64,
+    sets: &[u64; 5],
+    values: &[u8],
+    blocks: &[u8],
+) -> bool
+    ensures { λ r. let records = recordsBy count (now (writable .entry)) (now (sizes .entry)) (now (kinds .entry)) in
+        let groups = groupsBy made (now (sets .entry)) in
+        ⌜ Tested r records (now (curves .entry)) (now (functions .entry)) groups (now (values .entry)) (now (blocks .entry)) ⌝ }
+{
+    // as slices, since of these it is known how many places there are
+    let _types = &writable[..];
+    let _sizes = &sizes[..];
+    let _places = &sets[..];
+    boards::quick_board(
+        count,
+        writable,
+        sizes,
+        kinds,
+        curves,
+        functions,
+        made,
+        sets,
+        values,
+        blocks,
+    )
+}
+
+// A packet on a board that was tested. Two columns and the groups' places come as slices, since no front is lent of an array that was lent.
 fn receive(
+    usable: bool,
     count: usize,
     types: &[u8],
     sizes: &[u8],
@@ -195,7 +230,7 @@ fn receive(
     reply: &mut [u8],
 ) -> Received
     requires { let records = recordsBy count (now types) (now sizes) (now kinds) in
-        ⌜ BoardReady records (now curves) (now functions) (groupsBy made (now sets)) (now values) (now blocks) ⌝ }
+        ⌜ Tested usable records (now curves) (now functions) (groupsBy made (now sets)) (now values) (now blocks) ⌝ }
     ensures { λ r. let records = recordsBy count (now (types .entry)) (now (sizes .entry)) (now (kinds .entry)) in
         let t = tableOf records (now (curves .entry)) (now (functions .entry)) in
         let groups = groupsOf (groupsBy made (now (sets .entry))) in
@@ -204,6 +239,9 @@ fn receive(
         let b = now (reply .entry) in
         ⌜ CarriedAs t (placed own multicast) busy (now (request .entry)) x b (r .outcome) (r .regroup) (now (reply .exit)) y ⌝ }
 {
+    if !usable {
+        return refused(Refusal::BoardUnusable);
+    }
     let o = wire::open(request, own, multicast, reply.len());
     let Opened::Message { due } = o else {
         let outcome = unopened(o);
@@ -228,8 +266,7 @@ fn receive(
     )
 }
 
-// Any packet, on any board. What it makes of the made groups is told and not yet done. That their places are 5 is promised with it, for
-// who does it.
+// Any packet, on any board. What it makes of the made groups is told and not yet done: it fits the table.
 fn carry(
     count: usize,
     writable: &[u8; 64],
@@ -254,10 +291,10 @@ fn carry(
         let y = lent (now (values .exit)) (now (blocks .exit)) groups in
         let b = now (reply .entry) in
         ⌜ CarriedAs t (placed own multicast) busy (now (request .entry)) x b (r .outcome) (r .regroup) (now (reply .exit)) y
-        × (length (now (sets .entry)) ≡ 5) ⌝ }
+        × Fits (r .regroup) (groupsBy made (now (sets .entry))) ⌝ }
 {
     let places = &sets[..];
-    if boards::quick_board(
+    let usable = ready(
         count,
         writable,
         sizes,
@@ -268,26 +305,25 @@ fn carry(
         sets,
         values,
         blocks,
-    ) {
-        return receive(
-            count,
-            &writable[..],
-            &sizes[..],
-            kinds,
-            curves,
-            functions,
-            made,
-            places,
-            own,
-            multicast,
-            busy,
-            values,
-            blocks,
-            request,
-            reply,
-        );
-    }
-    refused(Refusal::BoardUnusable)
+    );
+    receive(
+        usable,
+        count,
+        &writable[..],
+        &sizes[..],
+        kinds,
+        curves,
+        functions,
+        made,
+        places,
+        own,
+        multicast,
+        busy,
+        values,
+        blocks,
+        request,
+        reply,
+    )
 }
 
 // Any packet, on any board.

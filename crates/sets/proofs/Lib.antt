@@ -3,7 +3,5 @@ pub mod Ids
 pub mod Members
 pub mod AtOnce
 pub mod First
-pub mod Whole
-pub mod Walk
-pub mod Runs
 pub mod Group
+pub mod Places

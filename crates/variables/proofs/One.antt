@@ -13,7 +13,7 @@ use Rattle.lists.proofs.Put.{length-part}
 use Rattle.lists.proofs.Pieces.{value-part, edit-one}
 use Rattle.sets.specs.Members.{sizeAt}
 use Rattle.sets.specs.Promises.{Sound}
-use Rattle.sets.proofs.Walk.{place-room}
+use Rattle.sets.proofs.Places.{place-room}
 use Rattle.parts.specs.Parts.{PayloadAt}
 
 -- a change keeps the store's length, so the next call may lean on it

@@ -1,8 +1,8 @@
 -- `change_turn` meets its contract. Assumes nothing.
-use Rattle.sets.proofs.Runs.{change-longer, change-over}
+use Rattle.members.proofs.Runs.{change-longer, change-over}
 use borrow.Author.Needs.{needs}
-use Rattle.sets.proofs.change_turn.Statement.{statement}
-use Rattle.sets.proofs.change_turn.Tie as tie
+use Rattle.members.proofs.change_turn.Statement.{statement}
+use Rattle.members.proofs.change_turn.Tie as tie
 
 pub change-turn-spec : {M : Type 1} → statement M
 change-turn-spec =

@@ -19,13 +19,14 @@ use Rattle.lists.specs.Put.{put, part}
 use Rattle.lists.proofs.Put.{put-nil, put-put, length-put, length-part, part-put-past}
 use Rattle.lists.proofs.Sum.{total-split}
 use Rattle.lists.proofs.Mask.{length-change, mask-nil, take-changed, drop-changed}
 use Rattle.sets.specs.Members.{membersBelow, membersOf, sizeAt, setBytes}
 use Rattle.sets.specs.Promises.{Sound, BytesAt, Turned, StartOf}
-use Rattle.sets.specs.Runs.{runRead, runChanged, RunOn}
-use Rattle.sets.specs.declared.Run.{Run}
+use Rattle.members.specs.Runs.{runRead, runChanged, RunOn}
+use Rattle.members.specs.declared.Run.{Run}
 use Rattle.sets.proofs.Members.{membersFrom, from-start, from-none}
 use Rattle.sets.proofs.AtOnce.{below-declared, has-past}
-use Rattle.sets.proofs.Walk.{place-next, place-room, Reading, read-start, read-room, read-next, read-end, Editing, edit-start, edit-room, edit-next, edit-end}
+use Rattle.sets.proofs.Places.{place-next, place-room}
+use Rattle.members.proofs.Walk.{Reading, read-start, read-room, read-next, read-end, Editing, edit-start, edit-room, edit-next, edit-end}
 
 abbrev runOf : ℕ → ℕ → ℕ → Run
 runOf a b o = record { at = a; bytes = b; other = o }

@@ -4,11 +4,11 @@ use native.Mathlib.Omega.{arith}
 use lib.ListN.{getD}
 use denote.Ref.{now}
 use borrow.Author.Needs.{needs}
 use Rattle.sets.proofs.First.{lowest-less}
-use Rattle.sets.proofs.Walk.{Adding, add-start, add-room, add-next, add-end, add-small}
-use Rattle.sets.proofs.Whole.{bytes-whole, small-whole}
-use Rattle.sets.proofs.set_bytes.Statement.{statement}
-use Rattle.sets.proofs.set_bytes.Tie as tie
+use Rattle.members.proofs.Walk.{Adding, add-start, add-room, add-next, add-end, add-small}
+use Rattle.members.proofs.Whole.{bytes-whole, small-whole}
+use Rattle.members.proofs.set_bytes.Statement.{statement}
+use Rattle.members.proofs.set_bytes.Tie as tie
 
 abbrev Inv-loop : tie.InvT-loop
 Inv-loop sizes set bytes₀ rest₀ bytes rest = Adding sizes set rest bytes

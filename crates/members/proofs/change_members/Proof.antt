@@ -1,10 +1,10 @@
 -- `change_members` meets its contract. Assumes nothing.
 use native.Mathlib.Omega.{arith}
-use Rattle.sets.proofs.Whole.{whole-room, change-whole}
-use Rattle.sets.proofs.Runs.{start-inside, EditingRun, run-edit-start, run-edit-inside, run-edit-at, run-edit-from, run-edit-next, run-edit-last, run-edit-room, run-edit-end}
+use Rattle.members.proofs.Whole.{whole-room, change-whole}
+use Rattle.members.proofs.Runs.{start-inside, EditingRun, run-edit-start, run-edit-inside, run-edit-at, run-edit-from, run-edit-next, run-edit-last, run-edit-room, run-edit-end}
 use borrow.Author.Needs.{needs}
-use Rattle.sets.proofs.change_members.Statement.{statement}
-use Rattle.sets.proofs.change_members.Tie as tie
+use Rattle.members.proofs.change_members.Statement.{statement}
+use Rattle.members.proofs.change_members.Tie as tie
 
 abbrev Inv-loop : tie.InvT-loop
 Inv-loop sizes set values₀ op payload front written i₀ rest₀ run₀ values i rest run = EditingRun op sizes payload set front values₀ i rest run values

@@ -1,10 +1,10 @@
 -- `read_members` meets its contract. Assumes nothing.
 use native.Mathlib.Omega.{arith}
-use Rattle.sets.proofs.Whole.{read-whole}
-use Rattle.sets.proofs.Runs.{start-inside, ReadingRun, run-read-start, run-read-inside, run-read-from, run-read-to, run-read-next, run-read-last, run-read-room, run-read-begun, run-read-end}
+use Rattle.members.proofs.Whole.{read-whole}
+use Rattle.members.proofs.Runs.{start-inside, ReadingRun, run-read-start, run-read-inside, run-read-from, run-read-to, run-read-next, run-read-last, run-read-room, run-read-begun, run-read-end}
 use borrow.Author.Needs.{needs}
-use Rattle.sets.proofs.read_members.Statement.{statement}
-use Rattle.sets.proofs.read_members.Tie as tie
+use Rattle.members.proofs.read_members.Statement.{statement}
+use Rattle.members.proofs.read_members.Tie as tie
 
 abbrev Inv-loop : tie.InvT-loop
 Inv-loop sizes set values reply₀ at members i₀ rest₀ run₀ reply i rest run = ReadingRun sizes values set reply₀ at i rest run reply

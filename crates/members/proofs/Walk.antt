@@ -16,13 +16,14 @@ use Rattle.bsmp.specs.declared.VariableNumber.{VariableNumber}
 use Rattle.bsmp.proofs.Lists.{length-upFrom, only-length}
 use Rattle.lists.specs.Put.{put, part}
 use Rattle.lists.proofs.Put.{put-nil, put-put, set-put, length-put, length-part}
-use Rattle.lists.proofs.Sum.{total-within, total-take, total-drop, total-split}
+use Rattle.lists.proofs.Sum.{total-drop, total-split}
 use Rattle.lists.proofs.Pieces.{value-part, cut-change}
 use Rattle.sets.specs.Members.{membersBelow, membersOf, sizeAt, setBytes}
 use Rattle.sets.specs.Promises.{Sound, BytesAt, Turned, Lowest}
+use Rattle.sets.proofs.Places.{place-room}
 use Rattle.sets.proofs.Members.{membersFrom, from-next}
 use Rattle.sets.proofs.AtOnce.{below-declared, below-none}
-use Rattle.sets.proofs.Whole.{set-small}
+use Rattle.members.proofs.Whole.{set-small}
 
 -- bytes of each member laid one after another, from a place on; so many may still come
 module _ (f : VariableNumber → List ℕ) (all : List VariableNumber) (most : ℕ) (r₀ : List ℕ) (at : ℕ) where
@@ -71,13 +72,7 @@ module _ (f : VariableNumber → List ℕ) (m n most : ℕ) (r₀ : List ℕ) (a
       lay-step f (membersBelow m n) most r₀ at (marked m (variable i)) (variable i) (membersFrom m n (i + 1)) k left left′ r to r′ to′
       (rw e l) g o (rw e t) (rw (from-next m n i h) at q)
 
--- the members' values; the place of each in the store
-pub place-next : (ns : List ℕ) (i off n : ℕ) → i < length ns → n ≡ getD ns i 0 → off ≡ sum (take i ns) → off + n ≡ sum (take (i + 1) ns)
-place-next ns i off n h k e = omega (arith, total-take ns i h)
-
-pub place-room : (ns s : List ℕ) (i off : ℕ) → Sound ns s → i < length ns → off ≡ sum (take i ns) → off + getD ns i 0 ≤ length s
-place-room ns s i off z h e = omega (arith, total-within ns i h, z .exact)
-
+-- the members' values
 module _ (ns s : List ℕ) (m : ℕ) (r₀ : List ℕ) (at : ℕ) where
   -- the reading from variable i on
   abbrev pub Reading : ℕ → List ℕ → ℕ → Type 0

@@ -1,10 +1,10 @@
 -- `list_members` meets its contract. Assumes nothing.
 use Rattle.sets.proofs.First.{lowest-less}
-use Rattle.sets.proofs.Walk.{Listing, list-start, list-room, list-next, list-end}
-use Rattle.sets.proofs.Whole.{list-whole}
+use Rattle.members.proofs.Walk.{Listing, list-start, list-room, list-next, list-end}
+use Rattle.members.proofs.Whole.{list-whole}
 use borrow.Author.Needs.{needs}
-use Rattle.sets.proofs.list_members.Statement.{statement}
-use Rattle.sets.proofs.list_members.Tie as tie
+use Rattle.members.proofs.list_members.Statement.{statement}
+use Rattle.members.proofs.list_members.Tie as tie
 
 abbrev Inv-loop : tie.InvT-loop
 Inv-loop count set reply₀ at to₀ rest₀ reply to rest = Listing set count reply₀ at rest reply to

@@ -5,10 +5,10 @@ use native.Mathlib.Omega.{arith}
 use lib.ListN.{length, length-set}
 use Rattle.bsmp.specs.Base.{upFrom}
 use Rattle.lists.specs.Put.{put}
-use Rattle.sets.proofs.Whole.{all-start, all-next, all-done}
+use Rattle.members.proofs.Whole.{all-start, all-next, all-done}
 use borrow.Author.Needs.{needs}
-use Rattle.sets.proofs.list_all.Statement.{statement}
-use Rattle.sets.proofs.list_all.Tie as tie
+use Rattle.members.proofs.list_all.Statement.{statement}
+use Rattle.members.proofs.list_all.Tie as tie
 
 abbrev Inv-loop : tie.InvT-loop
 Inv-loop count reply₀ at i₀ reply i = (i ≤ count) × (length reply ≡ length reply₀) × (put reply (at + i) (upFrom i (count - i)) ≡ put reply₀ at (upFrom 0 count))

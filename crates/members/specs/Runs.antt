@@ -7,8 +7,8 @@ use lib.ListN.{length}
 use Rattle.bsmp.specs.Message.{changed}
 use Rattle.bsmp.specs.declared.Operation.{Operation}
 use Rattle.lists.specs.Put.{put, part}
 use Rattle.sets.specs.Promises.{Turned}
-use Rattle.sets.specs.declared.Run.{Run}
+use Rattle.members.specs.declared.Run.{Run}
 
 -- the reply, with the run read into it
 abbrev pub runRead : Run → (store reply : List ℕ) → List ℕ

@@ -1,8 +1,8 @@
 -- `read_turn` meets its contract. Assumes nothing.
-use Rattle.sets.proofs.Runs.{read-longer, read-over}
+use Rattle.members.proofs.Runs.{read-longer, read-over}
 use borrow.Author.Needs.{needs}
-use Rattle.sets.proofs.read_turn.Statement.{statement}
-use Rattle.sets.proofs.read_turn.Tie as tie
+use Rattle.members.proofs.read_turn.Statement.{statement}
+use Rattle.members.proofs.read_turn.Tie as tie
 
 pub read-turn-spec : {M : Type 1} → statement M
 read-turn-spec =
