@@ -484,8 +484,8 @@ res = [x for p in refs for x in ([f"obs-{p['name']}", f"bor-{p['name']}"] if p i
 cx.keep(*res); w(cx.text(f"enter ! C Λ (function {KT}) ({margs}) _ $")); par = 0
 w(I + f"enters ! (λ {' '.join(f'l-{i}' for i in range(N))}. params1 ! $"); par += 1
 fits = lambda p: f"(tt, (tt, (record {{ fits = g-{p['name']} .0 }}, tt)))"
-w(I + " $ ".join([f"pass1 ! (init ! {2 * loc[p['name']]} refl {fits(p) if p in sl else '(tt, tt)' if p in reads else p['R'].typed(p['name'], 'is-' + p['name'])})" for p in P] + ["pass0 !"]) + " $")
-LOC = [f"_{i}{s}" for i in range(N) for s in ("", "†")]
+w(I + " $ ".join([f"pass1 ! (init ! {loc[p['name']]} refl {fits(p) if p in sl else '(tt, tt)' if p in reads else p['R'].typed(p['name'], 'is-' + p['name'])})" for p in P] + ["pass0 !"]) + " $")
+LOC = [f"_{i}" for i in range(N)] + ["dying"]
 cx = Cx(LOC + res, I)
 def note(): w(I + "-- [" + "; ".join(cx.c[:cx.pos("_0")] + ["the locals"] + cx.c[cx.pos(LOC[-1]) + 1:]) + "]")
 def flush():
@@ -494,7 +494,7 @@ def flush():
 at = lambda x: cx.pos(f"_{loc[x]}")
 def back():
     n = cx.pos("_0")
-    if n: cx.step(f"move ! (span {n} {2 * N})"); cx.c = cx.c[n:n + 2 * N] + cx.c[:n] + cx.c[n + 2 * N:]
+    if n: cx.step(f"move ! (span {n} {len(LOC)})"); cx.c = cx.c[n:n + len(LOC)] + cx.c[:n] + cx.c[n + len(LOC):]
 ld = lambda x: f"(load ! (from ! (stop !)) (look ! {at(x)} refl))"
 def opds(xs): return "(no-more !)" if not xs else f"(and-then ! {ld(xs[0])} {opds(xs[1:])})"
 def landed(x, R, v, eq, p):
@@ -573,7 +573,7 @@ for p in sts:
     n = p["name"]; R = p["R"]; cx.move(f"cell-{n}", f"open-{n}", f"obs-{n}", f"auth-{n}"); cx.step(mapped(p, 0, new_number(p), f"(sym (map-id ({fins('y', p['places'])})))")); cx.owned(R.own(fst[n], f"({n}-left y (e .is) are-{n})"), "own"); cx.move(f"cell-{n}", "own")
     cx.step(f"closes ! tt {R.row} {fst[n]} ({R.mach(fst[n])} ∷ []) b-{n} o-{n}"); cx.c[0:5] = [f"obs-{n}", f"bor-{n}", f"t-{n}"]; back(); flush()
 note()
-cx.step("returns ! (look ! 0 refl)"); cx.step("leaves W (" + lst([f"(_, l-{i}, holds _)" for i in range(N)]) + ")"); flush(); cx.c = cx.c[2 * N:]; cx.keep(*ex0); w(cx.text("by ! (exits u′ y e)" + ")" * par)); w()
+cx.step("returns ! (look ! 0 refl)"); cx.step("leaves W (" + lst([f"(_, l-{i}, holds _)" for i in range(N)]) + ")"); flush(); cx.c = cx.c[len(LOC):]; cx.keep(*ex0); w(cx.text("by ! (exits u′ y e)" + ")" * par)); w()
 # ---------------------------------------------------------------- to the contract
 w(HEAD + " where")
 trT = "Triple 𝓤 (C kt) (TableOf 𝓤 H A at-mem run) → "; kn = "known-table known-work"

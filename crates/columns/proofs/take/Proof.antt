@@ -57,7 +57,7 @@ use Rattle.records.specs.declared.Records.{Records}
 use Rattle.bsmp.proofs.Variable as R
 use Rattle.bsmp.proofs.Variable.Laws as R′
 use Rattle.records.specs.Lending.{recordsBy}
-use Rattle.columns.proofs.Walk.{span, enters, empty, holds, leaves}
+use Rattle.columns.proofs.Walk.{span, dying, enters, empty, holds, leaves}
 use Rattle.columns.proofs.Byte.{byte, set-map, bytes-set}
 use Rattle.columns.proofs.Lent.{Column, columnTy, bytes, columnVal, IsColumn, AreColumns}
 use Rattle.columns.proofs.Columns.{columns-whole}
@@ -241,14 +241,14 @@ module _ {M : Type 1} (𝓤 : URA M) (H : Heap 𝓤) (A : Atoms 𝓤) (W : Given
       abbrev Auth : GName → List ℕ → Fml
       Auth γ xs = fauth γ (Column .coded .code xs)
 
-      -- the locals, local k at 2 · k; then the token, the fractured borrow, res, the slice's fact; the three columns, four each
+      -- the locals, local k at k, and that they die; then the token, the fractured borrow, res, the slice's fact; the three columns, four each
       abbrev At : Upto → List (Item 𝓤)
-      At i = ‵ (froom word l₀ 0) ∷ ‵ (fdies word l₀) ∷ ‵ (fat fullShare slice l₁ 0 v) ∷ ‵ (fdies slice l₁) ∷ ‵ (fat fullShare (lent 1) l₂ 0 (vptr bw ow)) ∷ ‵ (fdies (lent 1) l₂)
-          ∷ ‵ (fat fullShare (lent 2) l₃ 0 (vptr bs os)) ∷ ‵ (fdies (lent 2) l₃) ∷ ‵ (fat fullShare (lent 3) l₄ 0 (vptr bk ok)) ∷ ‵ (fdies (lent 3) l₄)
-          ∷ ‵ (fat fullShare word l₅ 0 (vint w64 m)) ∷ ‵ (fdies word l₅) ∷ ‵ (fat fullShare word l₆ 0 (vint w64 (i .0))) ∷ ‵ (fdies word l₆) ∷ ‵ (froom R′.mir l₇ 0)
-          ∷ ‵ (fdies R′.mir l₇) ∷ ‵ (froom word l₈ 0) ∷ ‵ (fdies word l₈) ∷ ‵ (froom tyBool l₉ 0) ∷ ‵ (fdies tyBool l₉) ∷ ‵ (froom word l₁₀ 0) ∷ ‵ (fdies word l₁₀) ∷ ‵ (froom tyPtr l₁₁ 0)
-          ∷ ‵ (fdies tyPtr l₁₁) ∷ ‵ (froom R′.mir l₁₂ 0) ∷ ‵ (fdies R′.mir l₁₂) ∷ ‵ (froom tyPtr l₁₃ 0) ∷ ‵ (fdies tyPtr l₁₃) ∷ ‵ (froom tyPtr l₁₄ 0) ∷ ‵ (fdies tyPtr l₁₄) ∷ ‵ (froom tyPtr l₁₅ 0)
-          ∷ ‵ (fdies tyPtr l₁₅) ∷ ‵ (froom tyPtr l₁₆ 0) ∷ ‵ (fdies tyPtr l₁₆) ∷ ‵ (froom tyPtr l₁₇ 0) ∷ ‵ (fdies tyPtr l₁₇) ∷ ‵ (froom tyPtr l₁₈ 0) ∷ ‵ (fdies tyPtr l₁₈) ∷ ‵ (flft κ q)
+      At i = ‵ (froom word l₀ 0) ∷ ‵ (fat fullShare slice l₁ 0 v) ∷ ‵ (fat fullShare (lent 1) l₂ 0 (vptr bw ow))
+          ∷ ‵ (fat fullShare (lent 2) l₃ 0 (vptr bs os)) ∷ ‵ (fat fullShare (lent 3) l₄ 0 (vptr bk ok))
+          ∷ ‵ (fat fullShare word l₅ 0 (vint w64 m)) ∷ ‵ (fat fullShare word l₆ 0 (vint w64 (i .0))) ∷ ‵ (froom R′.mir l₇ 0)
+          ∷ ‵ (froom word l₈ 0) ∷ ‵ (froom tyBool l₉ 0) ∷ ‵ (froom word l₁₀ 0) ∷ ‵ (froom tyPtr l₁₁ 0)
+          ∷ ‵ (froom R′.mir l₁₂ 0) ∷ ‵ (froom tyPtr l₁₃ 0) ∷ ‵ (froom tyPtr l₁₄ 0) ∷ ‵ (froom tyPtr l₁₅ 0)
+          ∷ ‵ (froom tyPtr l₁₆ 0) ∷ ‵ (froom tyPtr l₁₇ 0) ∷ ‵ (froom tyPtr l₁₈ 0) ∷ dying 𝓤 H En ∷ ‵ (flft κ q)
           ∷ ‵ (fshr-bor κ (λ p. arr-parts (shares R.the-row) n .part p ys b o)) ∷ ‵ (fres γ (codedHoleys R.the-row .code (heres R.the-row ys))) ∷ ‵ (at-slice R.the-row s (v ∷ []))
           ∷ ‵ (cell bw ow (columnsTo r ys (i .0) .writable)) ∷ ‵ (Open κw qw bw ow γw) ∷ ‵ (Obs γw ws) ∷ ‵ (Auth γw ws)
           ∷ ‵ (cell bs os (columnsTo r ys (i .0) .sizes)) ∷ ‵ (Open κs qs bs os γs) ∷ ‵ (Obs γs ss) ∷ ‵ (Auth γs ss)
@@ -261,49 +261,49 @@ module _ {M : Type 1} (𝓤 : URA M) (H : Heap 𝓤) (A : Atoms 𝓤) (W : Given
       turns : (i : Upto) → Sq W (At i) (runs C Λ En text.turn-1 (anyQ (Turned i)))
       unfolding afterTurn
       turns i =
-          assigns ! (bin ! (load ! (from ! (stop !)) (look ! 12 refl)) (load ! (from ! (stop !)) (look ! 10 refl)) tt) (from ! (stop !)) (init ! 18 refl (tt, tt)) $
-          first ! $ branches ! (load ! (from ! (stop !)) (look ! 18 refl))
+          assigns ! (bin ! (load ! (from ! (stop !)) (look ! 6 refl)) (load ! (from ! (stop !)) (look ! 5 refl)) tt) (from ! (stop !)) (init ! 9 refl (tt, tt)) $
+          first ! $ branches ! (load ! (from ! (stop !)) (look ! 9 refl))
           (λ less. skips ! $ exec ! C Λ En (after (after text.turn-1)) (anyQ (Turned i)) $
-          assigns ! (bin ! (load ! (from ! (stop !)) (look ! 12 refl)) (lit ! tt) (record { fits = scaled less })) (from ! (stop !)) (init ! 20 refl (tt, record { fits = scaled less })) $
-          assigns ! (bin ! (load ! (from ! (fld ! refl (stop !))) (look-in ! 2 (sub ! 0 refl (whole !)))) (load ! (from ! (stop !)) (look ! 20 refl)) tt) (from ! (stop !)) (init ! 22 refl (tt, tt)) $
-          rewrite ! 22 (λ (p : ℕ). ‵ (fat fullShare tyPtr l₁₁ 0 (vptr b p))) (sym (place-is 3 o (i .0))) refl $ move ! (39 ∷ 38 ∷ []) $
+          assigns ! (bin ! (load ! (from ! (stop !)) (look ! 6 refl)) (lit ! tt) (record { fits = scaled less })) (from ! (stop !)) (init ! 10 refl (tt, record { fits = scaled less })) $
+          assigns ! (bin ! (load ! (from ! (fld ! refl (stop !))) (look-in ! 1 (sub ! 0 refl (whole !)))) (load ! (from ! (stop !)) (look ! 10 refl)) tt) (from ! (stop !)) (init ! 11 refl (tt, tt)) $
+          rewrite ! 11 (λ (p : ℕ). ‵ (fat fullShare tyPtr l₁₁ 0 (vptr b p))) (sym (place-is 3 o (i .0))) refl $ move ! (21 ∷ 20 ∷ []) $
           looks-slice ! tt R.the-row (Is R.the-row) (shows 𝓤 H A R.the-row) (LL.vals R.the-type R′.the-laws) (LL.tells R.the-type R′.the-laws) (LL.copy R.the-type R′.the-copy 𝓤 H A W) ys b o (λ q′.
           elem-out ! R.the-row (Is R.the-row) (shows 𝓤 H A R.the-row) (LL.vals R.the-type R′.the-laws) (LL.tells R.the-type R′.the-laws) q′ ys (i .0) blankVariable b o (inside less) (λ g.
           -- [vars[i]; what it owns; the others; what shuts; the fractured borrow; the locals; res; the slice's fact; the columns]
-          assigns ! (of-opd ! (load ! (from ! (hop ! (look ! 27 refl) (stop !))) (look-raw ! 0 refl))) (from ! (stop !)) (init ! 29 refl (LL.lawful R.the-type R′.the-laws 𝓤 H A W .typed (elem (i .0)) _ g .0)) $
+          assigns ! (of-opd ! (load ! (from ! (hop ! (look ! 16 refl) (stop !))) (look-raw ! 0 refl))) (from ! (stop !)) (init ! 17 refl (LL.lawful R.the-type R′.the-laws 𝓤 H A W .typed (elem (i .0)) _ g .0)) $
           elem-back ! R.the-row q′ ys (i .0) blankVariable (machR (elem (i .0)) ∷ []) b o (inside less) $ shuts-slice ! tt R.the-row q′ ys b o $
           -- [the token; the fractured borrow; the locals; res; the slice's fact; the columns]
-          move ! (span 2 38) $
-          assigns ! (of-opd ! (load ! (from ! (stop !)) (look ! 24 refl))) (from ! (stop !)) (init ! 14 refl (LL.lawful R.the-type R′.the-laws 𝓤 H A W .typed (elem (i .0)) _ g .0)) $
+          move ! (span 2 20) $
+          assigns ! (of-opd ! (load ! (from ! (stop !)) (look ! 12 refl))) (from ! (stop !)) (init ! 7 refl (LL.lawful R.the-type R′.the-laws 𝓤 H A W .typed (elem (i .0)) _ g .0)) $
           -- each column: where it lies, where its place i lies, the store
-          assigns ! (addr ! (from ! (hop ! (look ! 4 refl) (stop !)))) (from ! (stop !)) (init ! 26 refl (tt, tt)) $
-          assigns ! (bin ! (load ! (from ! (stop !)) (look ! 26 refl)) (load ! (from ! (stop !)) (look ! 12 refl)) tt) (from ! (stop !)) (init ! 28 refl (tt, tt)) $
-          assigns ! (of-opd ! (load ! (from ! (fld ! refl (stop !))) (look-in ! 14 (sub ! 0 refl (whole !))))) (from ! (hop ! (look ! 28 refl) (stop !)))
-          (store-in ! 42 (byte ! (i .0) (bytes (columnsTo r ys (i .0) .writable)) (within less (long .0)) (long .0) (whole !)) (tt, record { fits = numbers (elem (i .0)) g .0 })) $
-          rewrite ! 42 (λ (w : Val). ‵ (fat fullShare columnTy bw ow w)) (stored-val (columnsTo r ys (i .0) .writable) (i .0) _ ∙ ap (λ (t : Records). columnVal (t .writable)) (one-more (i .0))) refl $
-          assigns ! (addr ! (from ! (hop ! (look ! 6 refl) (stop !)))) (from ! (stop !)) (init ! 30 refl (tt, tt)) $
-          assigns ! (bin ! (load ! (from ! (stop !)) (look ! 30 refl)) (load ! (from ! (stop !)) (look ! 12 refl)) tt) (from ! (stop !)) (init ! 32 refl (tt, tt)) $
-          assigns ! (of-opd ! (load ! (from ! (fld ! refl (stop !))) (look-in ! 14 (sub ! 1 refl (whole !))))) (from ! (hop ! (look ! 32 refl) (stop !)))
-          (store-in ! 46 (byte ! (i .0) (bytes (columnsTo r ys (i .0) .sizes)) (within less (long .1 .0)) (long .1 .0) (whole !)) (tt, record { fits = numbers (elem (i .0)) g .1 .0 })) $
-          rewrite ! 46 (λ (w : Val). ‵ (fat fullShare columnTy bs os w)) (stored-val (columnsTo r ys (i .0) .sizes) (i .0) _ ∙ ap (λ (t : Records). columnVal (t .sizes)) (one-more (i .0))) refl $
-          assigns ! (addr ! (from ! (hop ! (look ! 8 refl) (stop !)))) (from ! (stop !)) (init ! 34 refl (tt, tt)) $
-          assigns ! (bin ! (load ! (from ! (stop !)) (look ! 34 refl)) (load ! (from ! (stop !)) (look ! 12 refl)) tt) (from ! (stop !)) (init ! 36 refl (tt, tt)) $
-          assigns ! (of-opd ! (load ! (from ! (fld ! refl (stop !))) (look-in ! 14 (sub ! 2 refl (whole !))))) (from ! (hop ! (look ! 36 refl) (stop !)))
-          (store-in ! 50 (byte ! (i .0) (bytes (columnsTo r ys (i .0) .kinds)) (within less (long .1 .1)) (long .1 .1) (whole !)) (tt, record { fits = numbers (elem (i .0)) g .1 .1 })) $
-          rewrite ! 50 (λ (w : Val). ‵ (fat fullShare columnTy bk ok w)) (stored-val (columnsTo r ys (i .0) .kinds) (i .0) _ ∙ ap (λ (t : Records). columnVal (t .kinds)) (one-more (i .0))) refl $
-          assigns-last ! (bin ! (load ! (from ! (stop !)) (look ! 12 refl)) (lit ! tt) (record { fits = fits less })) (from ! (stop !)) (store ! 12 refl (tt, record { fits = fits less })) $
-          forget ! 14 refl $ forget ! 18 refl $ forget ! 20 refl $ forget ! 22 refl $ forget ! 24 refl $ forget ! 26 refl $ forget ! 28 refl $ forget ! 30 refl $ forget ! 32 refl $ forget ! 34 refl $ forget ! 36 refl $
+          assigns ! (addr ! (from ! (hop ! (look ! 2 refl) (stop !)))) (from ! (stop !)) (init ! 13 refl (tt, tt)) $
+          assigns ! (bin ! (load ! (from ! (stop !)) (look ! 13 refl)) (load ! (from ! (stop !)) (look ! 6 refl)) tt) (from ! (stop !)) (init ! 14 refl (tt, tt)) $
+          assigns ! (of-opd ! (load ! (from ! (fld ! refl (stop !))) (look-in ! 7 (sub ! 0 refl (whole !))))) (from ! (hop ! (look ! 14 refl) (stop !)))
+          (store-in ! 24 (byte ! (i .0) (bytes (columnsTo r ys (i .0) .writable)) (within less (long .0)) (long .0) (whole !)) (tt, record { fits = numbers (elem (i .0)) g .0 })) $
+          rewrite ! 24 (λ (w : Val). ‵ (fat fullShare columnTy bw ow w)) (stored-val (columnsTo r ys (i .0) .writable) (i .0) _ ∙ ap (λ (t : Records). columnVal (t .writable)) (one-more (i .0))) refl $
+          assigns ! (addr ! (from ! (hop ! (look ! 3 refl) (stop !)))) (from ! (stop !)) (init ! 15 refl (tt, tt)) $
+          assigns ! (bin ! (load ! (from ! (stop !)) (look ! 15 refl)) (load ! (from ! (stop !)) (look ! 6 refl)) tt) (from ! (stop !)) (init ! 16 refl (tt, tt)) $
+          assigns ! (of-opd ! (load ! (from ! (fld ! refl (stop !))) (look-in ! 7 (sub ! 1 refl (whole !))))) (from ! (hop ! (look ! 16 refl) (stop !)))
+          (store-in ! 28 (byte ! (i .0) (bytes (columnsTo r ys (i .0) .sizes)) (within less (long .1 .0)) (long .1 .0) (whole !)) (tt, record { fits = numbers (elem (i .0)) g .1 .0 })) $
+          rewrite ! 28 (λ (w : Val). ‵ (fat fullShare columnTy bs os w)) (stored-val (columnsTo r ys (i .0) .sizes) (i .0) _ ∙ ap (λ (t : Records). columnVal (t .sizes)) (one-more (i .0))) refl $
+          assigns ! (addr ! (from ! (hop ! (look ! 4 refl) (stop !)))) (from ! (stop !)) (init ! 17 refl (tt, tt)) $
+          assigns ! (bin ! (load ! (from ! (stop !)) (look ! 17 refl)) (load ! (from ! (stop !)) (look ! 6 refl)) tt) (from ! (stop !)) (init ! 18 refl (tt, tt)) $
+          assigns ! (of-opd ! (load ! (from ! (fld ! refl (stop !))) (look-in ! 7 (sub ! 2 refl (whole !))))) (from ! (hop ! (look ! 18 refl) (stop !)))
+          (store-in ! 32 (byte ! (i .0) (bytes (columnsTo r ys (i .0) .kinds)) (within less (long .1 .1)) (long .1 .1) (whole !)) (tt, record { fits = numbers (elem (i .0)) g .1 .1 })) $
+          rewrite ! 32 (λ (w : Val). ‵ (fat fullShare columnTy bk ok w)) (stored-val (columnsTo r ys (i .0) .kinds) (i .0) _ ∙ ap (λ (t : Records). columnVal (t .kinds)) (one-more (i .0))) refl $
+          assigns-last ! (bin ! (load ! (from ! (stop !)) (look ! 6 refl)) (lit ! tt) (record { fits = fits less })) (from ! (stop !)) (store ! 6 refl (tt, record { fits = fits less })) $
+          forget ! 7 refl $ forget ! 9 refl $ forget ! 10 refl $ forget ! 11 refl $ forget ! 12 refl $ forget ! 13 refl $ forget ! 14 refl $ forget ! 15 refl $ forget ! 16 refl $ forget ! 17 refl $ forget ! 18 refl $
           again ! Nearer At i (i .0 + 1, (add-one-le (ltb→lt (i .0) m less), subst AreColumns (one-more (i .0)) (are-with (columnsTo r ys (i .0)) (i .0) (elem (i .0)) (i .1 .1) g))) (add-one-dec m (i .0) (ltb→lt (i .0) m less)))))
-          (λ over. jumps ! $ rewrite ! 42 (λ (k : ℕ). ‵ (cell bw ow (columnsTo r ys k .writable))) (all over) refl $ rewrite ! 46 (λ (k : ℕ). ‵ (cell bs os (columnsTo r ys k .sizes))) (all over) refl $ rewrite ! 50 (λ (k : ℕ). ‵ (cell bk ok (columnsTo r ys k .kinds))) (all over) refl $
+          (λ over. jumps ! $ rewrite ! 24 (λ (k : ℕ). ‵ (cell bw ow (columnsTo r ys k .writable))) (all over) refl $ rewrite ! 28 (λ (k : ℕ). ‵ (cell bs os (columnsTo r ys k .sizes))) (all over) refl $ rewrite ! 32 (λ (k : ℕ). ‵ (cell bk ok (columnsTo r ys k .kinds))) (all over) refl $
           exec ! C Λ En text.t-5 (atRet En Post) $
-          assigns ! (of-opd ! (load ! (from ! (fld ! refl (stop !))) (look-in ! 2 (sub ! 1 refl (whole !))))) (from ! (stop !)) (init ! 0 refl (tt, record { fits = room .0 })) $
+          assigns ! (of-opd ! (load ! (from ! (fld ! refl (stop !))) (look-in ! 1 (sub ! 1 refl (whole !))))) (from ! (stop !)) (init ! 0 refl (tt, record { fits = room .0 })) $
           -- each column's borrow is closed
-          move ! (42 ∷ 43 ∷ 44 ∷ 45 ∷ []) $ owned ! Column (Is Column) (array-makes 𝓤 H A W u8 (uint-makes 𝓤 H A W w8) 64) (z .writable) _ (full over .0) $ move ! (1 ∷ 0 ∷ []) $
-          closes ! tt Column (z .writable) (columnVal (z .writable) ∷ []) bw ow $ move ! (span 3 38) $
-          move ! (45 ∷ 46 ∷ 47 ∷ 48 ∷ []) $ owned ! Column (Is Column) (array-makes 𝓤 H A W u8 (uint-makes 𝓤 H A W w8) 64) (z .sizes) _ (full over .1 .0) $ move ! (1 ∷ 0 ∷ []) $
-          closes ! tt Column (z .sizes) (columnVal (z .sizes) ∷ []) bs os $ move ! (span 3 38) $
-          move ! (48 ∷ 49 ∷ 50 ∷ 51 ∷ []) $ owned ! Column (Is Column) (array-makes 𝓤 H A W u8 (uint-makes 𝓤 H A W w8) 64) (z .kinds) _ (full over .1 .1) $ move ! (1 ∷ 0 ∷ []) $
-          closes ! tt Column (z .kinds) (columnVal (z .kinds) ∷ []) bk ok $ move ! (span 3 38) $
+          move ! (24 ∷ 25 ∷ 26 ∷ 27 ∷ []) $ owned ! Column (Is Column) (array-makes 𝓤 H A W u8 (uint-makes 𝓤 H A W w8) 64) (z .writable) _ (full over .0) $ move ! (1 ∷ 0 ∷ []) $
+          closes ! tt Column (z .writable) (columnVal (z .writable) ∷ []) bw ow $ move ! (span 3 20) $
+          move ! (27 ∷ 28 ∷ 29 ∷ 30 ∷ []) $ owned ! Column (Is Column) (array-makes 𝓤 H A W u8 (uint-makes 𝓤 H A W w8) 64) (z .sizes) _ (full over .1 .0) $ move ! (1 ∷ 0 ∷ []) $
+          closes ! tt Column (z .sizes) (columnVal (z .sizes) ∷ []) bs os $ move ! (span 3 20) $
+          move ! (30 ∷ 31 ∷ 32 ∷ 33 ∷ []) $ owned ! Column (Is Column) (array-makes 𝓤 H A W u8 (uint-makes 𝓤 H A W w8) 64) (z .kinds) _ (full over .1 .1) $ move ! (1 ∷ 0 ∷ []) $
+          closes ! tt Column (z .kinds) (columnVal (z .kinds) ∷ []) bk ok $ move ! (span 3 20) $
           returns ! (look ! 0 refl) $ leaves W ((_, l₀, holds _) ∷ (_, l₁, holds _) ∷ (_, l₂, holds _) ∷ (_, l₃, holds _) ∷ (_, l₄, holds _) ∷ (_, l₅, holds _) ∷ (_, l₆, holds _) ∷ (_, l₇, empty) ∷ (_, l₈, empty) ∷ (_, l₉, holds _) ∷ (_, l₁₀, empty) ∷ (_, l₁₁, empty) ∷ (_, l₁₂, empty) ∷ (_, l₁₃, empty) ∷ (_, l₁₄, empty) ∷ (_, l₁₅, empty) ∷ (_, l₁₆, empty) ∷ (_, l₁₇, empty) ∷ (_, l₁₈, empty) ∷ []) $
           -- [kinds, sizes, writable: seen, borrow, token; the token; the fractured borrow; res; the slice's fact]
           move ! (11 ∷ 10 ∷ []) $ fjoin ! $ move ! (11 ∷ 0 ∷ []) $ fjoin ! $ by ! exits)
@@ -344,25 +344,25 @@ module _ {M : Type 1} (𝓤 : URA M) (H : Heap 𝓤) (A : Atoms 𝓤) (W : Given
         -- [writable: seen, borrow; sizes: seen, borrow; kinds: seen, borrow; true; the slice; kinds' token; true; sizes', writable's, the slice's token]
         keep ! (12 ∷ 7 ∷ 0 ∷ 1 ∷ 11 ∷ 2 ∷ 3 ∷ 10 ∷ 4 ∷ 5 ∷ 8 ∷ []) $ enter ! C Λ code.function (v ∷ vptr bw ow ∷ vptr bs os ∷ vptr bk ok ∷ []) _ $
         enters ! (λ l₀ l₁ l₂ l₃ l₄ l₅ l₆ l₇ l₈ l₉ l₁₀ l₁₁ l₁₂ l₁₃ l₁₄ l₁₅ l₁₆ l₁₇ l₁₈. params1 ! $
-        pass1 ! (init ! 2 refl (tt, (tt, (record { fits = room .0 }, tt)))) $ pass1 ! (init ! 4 refl (tt, tt)) $ pass1 ! (init ! 6 refl (tt, tt)) $ pass1 ! (init ! 8 refl (tt, tt)) $ pass0 ! $
+        pass1 ! (init ! 1 refl (tt, (tt, (record { fits = room .0 }, tt)))) $ pass1 ! (init ! 2 refl (tt, tt)) $ pass1 ! (init ! 3 refl (tt, tt)) $ pass1 ! (init ! 4 refl (tt, tt)) $ pass0 ! $
         -- [the locals; the token; the slice; writable, sizes, kinds: seen, borrow, token]
-        move ! (40 ∷ 41 ∷ 42 ∷ []) $ opens ! tt Column {h = ws} bw ow (λ usw. spelt ! Column (Is Column) (shows 𝓤 H A Column) (array-vals (uint-vals w8)) (array-tells u8 (uint-vals w8) (uint-tells w8) 64) fullShare ws usw bw ow $ move ! (1 ∷ []) $ facts ! Column (Is Column) (shows 𝓤 H A Column) ws (columnVal ws ∷ []) (λ isw. move ! (span 4 38) $
-        move ! (44 ∷ 45 ∷ 46 ∷ []) $ opens ! tt Column {h = ss} bs os (λ uss. spelt ! Column (Is Column) (shows 𝓤 H A Column) (array-vals (uint-vals w8)) (array-tells u8 (uint-vals w8) (uint-tells w8) 64) fullShare ss uss bs os $ move ! (1 ∷ []) $ facts ! Column (Is Column) (shows 𝓤 H A Column) ss (columnVal ss ∷ []) (λ iss. move ! (span 4 38) $
-        move ! (48 ∷ 49 ∷ 50 ∷ []) $ opens ! tt Column {h = ks} bk ok (λ usk. spelt ! Column (Is Column) (shows 𝓤 H A Column) (array-vals (uint-vals w8)) (array-tells u8 (uint-vals w8) (uint-tells w8) 64) fullShare ks usk bk ok $ move ! (1 ∷ []) $ facts ! Column (Is Column) (shows 𝓤 H A Column) ks (columnVal ks ∷ []) (λ isk. move ! (span 4 38) $
+        move ! (22 ∷ 23 ∷ 24 ∷ []) $ opens ! tt Column {h = ws} bw ow (λ usw. spelt ! Column (Is Column) (shows 𝓤 H A Column) (array-vals (uint-vals w8)) (array-tells u8 (uint-vals w8) (uint-tells w8) 64) fullShare ws usw bw ow $ move ! (1 ∷ []) $ facts ! Column (Is Column) (shows 𝓤 H A Column) ws (columnVal ws ∷ []) (λ isw. move ! (span 4 20) $
+        move ! (26 ∷ 27 ∷ 28 ∷ []) $ opens ! tt Column {h = ss} bs os (λ uss. spelt ! Column (Is Column) (shows 𝓤 H A Column) (array-vals (uint-vals w8)) (array-tells u8 (uint-vals w8) (uint-tells w8) 64) fullShare ss uss bs os $ move ! (1 ∷ []) $ facts ! Column (Is Column) (shows 𝓤 H A Column) ss (columnVal ss ∷ []) (λ iss. move ! (span 4 20) $
+        move ! (30 ∷ 31 ∷ 32 ∷ []) $ opens ! tt Column {h = ks} bk ok (λ usk. spelt ! Column (Is Column) (shows 𝓤 H A Column) (array-vals (uint-vals w8)) (array-tells u8 (uint-vals w8) (uint-tells w8) 64) fullShare ks usk bk ok $ move ! (1 ∷ []) $ facts ! Column (Is Column) (shows 𝓤 H A Column) ks (columnVal ks ∷ []) (λ isk. move ! (span 4 20) $
         -- [the locals; kinds, sizes, writable: the cell, what closes it, seen, auth; the token; the slice]
-        move ! (51 ∷ []) $ fsplit ! $ move ! (1 ∷ []) $ fsplit ! $ keep ! (span 3 38 ++ (53 ∷ 1 ∷ 0 ∷ 2 ∷ span 49 4 ++ (span 45 4 ++ span 41 4))) $
-        rewrite ! 42 (λ (t : Records). ‵ (fat fullShare columnTy bw ow (columnVal (t .writable)))) none refl $ rewrite ! 46 (λ (t : Records). ‵ (fat fullShare columnTy bs os (columnVal (t .sizes)))) none refl $
-        rewrite ! 50 (λ (t : Records). ‵ (fat fullShare columnTy bk ok (columnVal (t .kinds)))) none refl $
-        assigns ! (of-opd ! (load ! (from ! (fld ! refl (stop !))) (look-in ! 2 (sub ! 1 refl (whole !))))) (from ! (stop !)) (init ! 16 refl (tt, record { fits = room .0 })) $
+        move ! (33 ∷ []) $ fsplit ! $ move ! (1 ∷ []) $ fsplit ! $ keep ! (span 3 20 ++ (35 ∷ 1 ∷ 0 ∷ 2 ∷ span 31 4 ++ (span 27 4 ++ span 23 4))) $
+        rewrite ! 24 (λ (t : Records). ‵ (fat fullShare columnTy bw ow (columnVal (t .writable)))) none refl $ rewrite ! 28 (λ (t : Records). ‵ (fat fullShare columnTy bs os (columnVal (t .sizes)))) none refl $
+        rewrite ! 32 (λ (t : Records). ‵ (fat fullShare columnTy bk ok (columnVal (t .kinds)))) none refl $
+        assigns ! (of-opd ! (load ! (from ! (fld ! refl (stop !))) (look-in ! 1 (sub ! 1 refl (whole !))))) (from ! (stop !)) (init ! 8 refl (tt, record { fits = room .0 })) $
         use0 W (raw (Few 𝓤 H A mem run .pre to-few)) goes-few $
-        calls-at ! fm (Few 𝓤 H A mem run) known-few to-few (and-then ! (load ! (from ! (stop !)) (look ! 17 refl)) (no-more !)) (λ w.
+        calls-at ! fm (Few 𝓤 H A mem run) known-few to-few (and-then ! (load ! (from ! (stop !)) (look ! 9 refl)) (no-more !)) (λ w.
         use1 W (later (some (λ (k : ℕ). (‵ ftrue ⊛ ‵ (usize .own k (w ∷ []))) ⊛ raw (ensured 𝓤 H A few.ended (few.clauses 𝓤 H A mem run) tt (n, tt) tt k)))) (id⊢ 𝓤 _) $ await ! tt $ pick ! (λ k.
         split ! $ move ! (1 ∷ []) $ use1 W (raw (fact 𝓤 (k ≡ m))) (few-said 𝓤 H A mem run n k) $ heard ! (k ≡ m) (λ d.
         split ! $ drop ! $ facts ! usize (Is usize) (shows 𝓤 H A usize) k (w ∷ []) (λ is.
-        land ! (from ! (stop !)) (init ! 10 refl (uint-lawful 𝓤 H A W w64 .typed k _ is .0)) $
-        rewrite ! 10 (λ (x : Val). ‵ (fat fullShare (tyInt w64) l₅ 0 x)) (ap only (is .0) ∙ ap (vint w64) d) refl $
-        assigns ! (of-opd ! (lit ! tt)) (from ! (stop !)) (init ! 12 refl (tt, record { fits = lit< tt })) $
-        forget ! 16 refl $ looped l₀ l₁ l₂ l₃ l₄ l₅ l₆ l₇ l₈ l₉ l₁₀ l₁₁ l₁₂ l₁₃ l₁₄ l₁₅ l₁₆ l₁₇ l₁₈ (0, (zero-le, subst AreColumns none (isw, (iss, isk)))))))))))))))
+        land ! (from ! (stop !)) (init ! 5 refl (uint-lawful 𝓤 H A W w64 .typed k _ is .0)) $
+        rewrite ! 5 (λ (x : Val). ‵ (fat fullShare (tyInt w64) l₅ 0 x)) (ap only (is .0) ∙ ap (vint w64) d) refl $
+        assigns ! (of-opd ! (lit ! tt)) (from ! (stop !)) (init ! 6 refl (tt, record { fits = lit< tt })) $
+        forget ! 8 refl $ looped l₀ l₁ l₂ l₃ l₄ l₅ l₆ l₇ l₈ l₉ l₁₀ l₁₁ l₁₂ l₁₃ l₁₄ l₁₅ l₁₆ l₁₇ l₁₈ (0, (zero-le, subst AreColumns none (isw, (iss, isk)))))))))))))))
 
 module _ {M : Type 1} (𝓤 : URA M) (H : Heap 𝓤) (A : Atoms 𝓤) (W : Given 𝓤 H A) (mem : Memory → SProp 𝓤) (run : Routine → Fun 𝓤) (𝓣 : Tables 𝓤 H) where
   f-walks : FmC 𝓤 H (W .laws) (𝓣 .C) → Triple 𝓤 (𝓣 .C #columns·stored) (Few 𝓤 H A mem run)
