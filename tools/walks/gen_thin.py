@@ -481,7 +481,11 @@ I = "        "
 cx = Cx(["toks", "owns"], I); splits(cx, [f"t-{p['name']}" for p in refs] + ["true"]); cx.move("owns"); splits(cx, [f"O-{p['name']}" for p in P] + ["true'"])
 for p in reads: n = p["name"]; cx.move(f"O-{n}"); cx.step("fsplit3 !"); cx.c[0:1] = ["eq", f"obs-{n}", f"bor-{n}"]; cx.drop()
 res = [x for p in refs for x in ([f"obs-{p['name']}", f"bor-{p['name']}"] if p in reads else [f"O-{p['name']}"])] + [f"t-{p['name']}" for p in refs]
-cx.keep(*res); w(cx.text(f"enter ! C Λ (function {KT}) ({margs}) _ $")); par = 0
+cx.keep(*res)
+# what goes to the work as it came is one entry until then, for the shorter a context, the quicker each step
+hand = [f"O-{p['name']}" for p in wrefs] + [f"t-{p['name']}" for p in wrefs]
+if hand: cx.move(*hand); cx.group(len(hand), "handed")
+res = cx.c; w(cx.text(f"enter ! C Λ (function {KT}) ({margs}) _ $")); par = 0
 w(I + f"enters ! (λ {' '.join(f'l-{i}' for i in range(N))}. params1 ! $"); par += 1
 fits = lambda p: f"(tt, (tt, (record {{ fits = g-{p['name']} .0 }}, tt)))"
 w(I + " $ ".join([f"pass1 ! (init ! {loc[p['name']]} refl {fits(p) if p in sl else '(tt, tt)' if p in reads else p['R'].typed(p['name'], 'is-' + p['name'])})" for p in P] + ["pass0 !"]) + " $")
@@ -548,7 +552,7 @@ for p in reads:
     w(I + f"({'lends' if p in sts else 'shows'}-places {by_law(p)} ({cell_of(p, m)} {u}) {xs} ({had_field(q)}) (part-{n} {share(p)} {m} {u})) $ await ! tt $ pick ! (λ loan-{n}."); par += 1
     cx.c[0] = "loan"; splits(cx, [f"t-{q['name']}", f"O-{q['name']}", f"kept-{n}"]); flush()
 gw = " ".join([f"goes-work {BS} ls′{LOANS} (is .1)"] + [f"was-{p['name']}" for p in reads])
-cx.move(*had0); cx.group(len(had0), "x"); cx.step(f"use1 W (raw ({work_pre(SECOND)}){' ⊛ ' + copies if shrs else ''}) ({gw})")
+had = [x for x in had0 if x not in hand] + (["handed"] if hand else []); cx.move(*had); cx.group(len(had), "x"); cx.step(f"use1 W (raw ({work_pre(SECOND)}){' ⊛ ' + copies if shrs else ''}) ({gw})")
 if shrs: cx.split("pre", "copies")
 else: cx.c[0] = "pre"
 flush(); note()

@@ -257,10 +257,10 @@ module _ (turnOf : TurnOf) (agree : Agree turnOf) (kt kc : Name) {M : Type 1} (�
     walk : Room M2.the-row (length (now variables)) → Room u32 (length (now curves)) → Room u8 (length (now functions)) → Room u8 (length (now values)) → Room u8 (length (now blocks)) → Room u8 (length (now request)) → Room u8 (length (now reply)) → ent 𝓤 (onEntry 𝓤 H A signature (bound .0 .0) (bound .0 .1) a at) (WpFn 𝓤 H C Λ (function kt kc) (slice variables ∷ slice curves ∷ slice functions ∷ vptr b-groups o-groups ∷ vint w8 own ∷ vint w8 multicast ∷ vint w64 busy ∷ slice values ∷ slice blocks ∷ slice request ∷ slice reply ∷ []) Post)
     walk g-variables g-curves g-functions g-values g-blocks g-request g-reply =
         qed W ((‵ (flft κ-variables q-variables) ⊛ ‵ (flft κ-curves q-curves) ⊛ ‵ (flft κ-functions q-functions) ⊛ ‵ (flft κ-groups q-groups) ⊛ ‵ (flft κ-values q-values) ⊛ ‵ (flft κ-blocks q-blocks) ⊛ ‵ (flft κ-request q-request) ⊛ ‵ (flft κ-reply q-reply) ⊛ ‵ ftrue) ∷ (‵ O-variables ⊛ ‵ O-curves ⊛ ‵ O-functions ⊛ ‵ (MutRef (named 3) κ-groups M3.the-row .own x-groups (vptr b-groups o-groups ∷ [])) ⊛ ‵ (u8 .own own (vint w8 own ∷ [])) ⊛ ‵ (u8 .own multicast (vint w8 multicast ∷ [])) ⊛ ‵ (u64 .own busy (vint w64 busy ∷ [])) ⊛ ‵ O-values ⊛ ‵ O-blocks ⊛ ‵ O-request ⊛ ‵ O-reply ⊛ ‵ ftrue) ∷ []) ∵
-        split ! $ move ! (1 ∷ []) $ split ! $ move ! (1 ∷ []) $ split ! $ move ! (1 ∷ []) $ split ! $ move ! (1 ∷ []) $ split ! $ move ! (1 ∷ []) $ split ! $ move ! (1 ∷ []) $ split ! $ move ! (1 ∷ []) $ split ! $ move ! (9 ∷ []) $ split ! $ move ! (1 ∷ []) $ split ! $ move ! (1 ∷ []) $ split ! $ move ! (1 ∷ []) $ split ! $ move ! (1 ∷ []) $ split ! $ move ! (1 ∷ []) $ split ! $ move ! (1 ∷ []) $ split ! $ move ! (1 ∷ []) $ split ! $ move ! (1 ∷ []) $ split ! $ move ! (1 ∷ []) $ split ! $ move ! (1 ∷ []) $ split ! $ move ! (8 ∷ []) $ fsplit3 ! $ drop ! $ keep ! (12 ∷ 11 ∷ 10 ∷ 0 ∷ 1 ∷ 6 ∷ 5 ∷ 4 ∷ 2 ∷ 21 ∷ 20 ∷ 19 ∷ 18 ∷ 17 ∷ 16 ∷ 15 ∷ 13 ∷ []) $ enter ! C Λ (function kt kc) (slice variables ∷ slice curves ∷ slice functions ∷ vptr b-groups o-groups ∷ vint w8 own ∷ vint w8 multicast ∷ vint w64 busy ∷ slice values ∷ slice blocks ∷ slice request ∷ slice reply ∷ []) _ $
+        split ! $ move ! (1 ∷ []) $ split ! $ move ! (1 ∷ []) $ split ! $ move ! (1 ∷ []) $ split ! $ move ! (1 ∷ []) $ split ! $ move ! (1 ∷ []) $ split ! $ move ! (1 ∷ []) $ split ! $ move ! (1 ∷ []) $ split ! $ move ! (9 ∷ []) $ split ! $ move ! (1 ∷ []) $ split ! $ move ! (1 ∷ []) $ split ! $ move ! (1 ∷ []) $ split ! $ move ! (1 ∷ []) $ split ! $ move ! (1 ∷ []) $ split ! $ move ! (1 ∷ []) $ split ! $ move ! (1 ∷ []) $ split ! $ move ! (1 ∷ []) $ split ! $ move ! (1 ∷ []) $ split ! $ move ! (1 ∷ []) $ split ! $ move ! (8 ∷ []) $ fsplit3 ! $ drop ! $ keep ! (12 ∷ 11 ∷ 10 ∷ 0 ∷ 1 ∷ 6 ∷ 5 ∷ 4 ∷ 2 ∷ 21 ∷ 20 ∷ 19 ∷ 18 ∷ 17 ∷ 16 ∷ 15 ∷ 13 ∷ []) $ move ! (1 ∷ 2 ∷ 5 ∷ 6 ∷ 7 ∷ 8 ∷ 10 ∷ 11 ∷ 13 ∷ 14 ∷ 15 ∷ 16 ∷ []) $ group ! 12 $ enter ! C Λ (function kt kc) (slice variables ∷ slice curves ∷ slice functions ∷ vptr b-groups o-groups ∷ vint w8 own ∷ vint w8 multicast ∷ vint w64 busy ∷ slice values ∷ slice blocks ∷ slice request ∷ slice reply ∷ []) _ $
         enters ! (λ l-0 l-1 l-2 l-3 l-4 l-5 l-6 l-7 l-8 l-9 l-10 l-11 l-12 l-13 l-14 l-15 l-16 l-17 l-18 l-19 l-20 l-21 l-22 l-23 l-24 l-25 l-26 l-27 l-28 l-29 l-30. params1 ! $
         pass1 ! (init ! 1 refl (tt, (tt, (record { fits = g-variables .0 }, tt)))) $ pass1 ! (init ! 2 refl (tt, (tt, (record { fits = g-curves .0 }, tt)))) $ pass1 ! (init ! 3 refl (tt, (tt, (record { fits = g-functions .0 }, tt)))) $ pass1 ! (init ! 4 refl (tt, tt)) $ pass1 ! (init ! 5 refl (tt, record { fits = is-own .1 })) $ pass1 ! (init ! 6 refl (tt, record { fits = is-multicast .1 })) $ pass1 ! (init ! 7 refl (tt, record { fits = is-busy .1 })) $ pass1 ! (init ! 8 refl (tt, (tt, (record { fits = g-values .0 }, tt)))) $ pass1 ! (init ! 9 refl (tt, (tt, (record { fits = g-blocks .0 }, tt)))) $ pass1 ! (init ! 10 refl (tt, (tt, (record { fits = g-request .0 }, tt)))) $ pass1 ! (init ! 11 refl (tt, (tt, (record { fits = g-reply .0 }, tt)))) $ pass0 ! $
-        -- [the locals; O-variables; O-curves; O-functions; obs-groups; bor-groups; O-values; O-blocks; O-request; O-reply; t-variables; t-curves; t-functions; t-groups; t-values; t-blocks; t-request; t-reply]
+        -- [the locals; handed; O-variables; obs-groups; bor-groups; t-variables; t-groups]
         assigns ! (rep ! 64 (lit ! tt)) (from ! (stop !)) (init ! 12 refl (blank-typed 𝓤 H A W)) $
         assigns ! (rep ! 64 (lit ! tt)) (from ! (stop !)) (init ! 13 refl (blank-typed 𝓤 H A W)) $
         assigns ! (rep ! 64 (lit ! tt)) (from ! (stop !)) (init ! 14 refl (blank-typed 𝓤 H A W)) $
@@ -270,18 +270,18 @@ module _ (turnOf : TurnOf) (agree : Agree turnOf) (kt kc : Name) {M : Type 1} (�
         move ! (12 ∷ 13 ∷ 14 ∷ []) $ group ! 3 $
         use1 W (later (some (λ (l : Loans). Tokens 𝓤 H A W (places l-12 l-13 l-14) l ⊛ Each 𝓤 H A W (places l-12 l-13 l-14) byMut blanks l ⊛ Each 𝓤 H A W (places l-12 l-13 l-14) keptMut blanks l))) (lends-mut 𝓤 H A W (places l-12 l-13 l-14) blanks blanks-are) $ await ! tt $ pick ! (λ ls.
         split ! $ move ! (1 ∷ []) $ split ! $
-        move ! (32 ∷ 41 ∷ 2 ∷ 0 ∷ []) $ group ! 4 $ use1 W (raw (TableOf 𝓤 H A at-mem run .pre (to-table (places l-12 l-13 l-14) ls)) ⊛ ‵ O-variables) (goes-table (places l-12 l-13 l-14) ls) $ split ! $
-        -- [pre; O-variables; kept; the locals; O-curves; O-functions; obs-groups; bor-groups; O-values; O-blocks; O-request; O-reply; t-curves; t-functions; t-groups; t-values; t-blocks; t-request; t-reply]
+        move ! (33 ∷ 36 ∷ 2 ∷ 0 ∷ []) $ group ! 4 $ use1 W (raw (TableOf 𝓤 H A at-mem run .pre (to-table (places l-12 l-13 l-14) ls)) ⊛ ‵ O-variables) (goes-table (places l-12 l-13 l-14) ls) $ split ! $
+        -- [pre; O-variables; kept; the locals; handed; obs-groups; bor-groups; t-groups]
         calls-at ! fm (TableOf 𝓤 H A at-mem run) known-table (to-table (places l-12 l-13 l-14) ls) (and-then ! (load ! (from ! (stop !)) (look ! 4 refl)) (and-then ! (load ! (from ! (stop !)) (look ! 18 refl)) (and-then ! (load ! (from ! (stop !)) (look ! 19 refl)) (and-then ! (load ! (from ! (stop !)) (look ! 20 refl)) (no-more !))))) (λ u.
         use1 W (later (given ((u ≡ vint w64 (tbl .count)) × Counted) (‵ (flft κ-variables q-variables) ⊛ Tokens 𝓤 H A W (places l-12 l-13 l-14) ls ⊛ Each 𝓤 H A W (places l-12 l-13 l-14) last tbl ls))) (told-table (places l-12 l-13 l-14) ls u) $ await ! tt $ learn ! (λ is.
         split ! $ move ! (1 ∷ []) $ split ! $ move ! (0 ∷ 4 ∷ 1 ∷ []) $ group ! 3 $
         use1 W (later (given (AreColumns tbl) (Cells 𝓤 H A W (places l-12 l-13 l-14) tbl))) (mut-back 𝓤 H A W (places l-12 l-13 l-14) tbl ls) $ await ! tt $ learn ! (λ are.
         split ! $ move ! (1 ∷ []) $ split ! $ move ! (span 5 12 ++ (2 ∷ 0 ∷ 1 ∷ span 17 17)) $ land ! (from ! (stop !)) (init ! 15 refl (subst (λ (w : Val). Holds (hasTy (tyInt w64) w) × WT w) (sym (is .0)) (tt, record { fits = is .1 }))) $ rewrite ! 15 (λ (w : Val). ‵ (fat fullShare (tyInt w64) l-15 0 w)) (is .0) refl $
-        -- [the locals; t-variables; O-variables; O-curves; O-functions; obs-groups; bor-groups; O-values; O-blocks; O-request; O-reply; t-curves; t-functions; t-groups; t-values; t-blocks; t-request; t-reply]
-        move ! (36 ∷ 37 ∷ 44 ∷ []) $
+        -- [the locals; t-variables; O-variables; handed; obs-groups; bor-groups; t-groups]
+        move ! (35 ∷ 36 ∷ 37 ∷ []) $
         opens ! tt M3.the-row {h = h-groups} b-groups o-groups (λ vs-groups. spelt ! M3.the-row (Is M3.the-row) (shows 𝓤 H A M3.the-row) (LL.vals M3.the-type M3′.the-laws) (LL.tells M3.the-type M3′.the-laws) fullShare h-groups vs-groups b-groups o-groups $ move ! (1 ∷ []) $ facts ! M3.the-row (Is M3.the-row) (shows 𝓤 H A M3.the-row) h-groups (LL.val M3.the-type M3′.the-laws h-groups ∷ []) (λ was-groups.
         move ! (span 4 32) $ rewrite ! 32 (λ (xs : List ℕ). Cell-groups fullShare (h-groups .count) (numbersVal w64 xs)) (map-id (h-groups .sets)) refl $ assigns ! (of-opd ! (load ! (from ! (hop ! (look ! 4 refl) (fld ! refl (stop !)))) (look-in ! 32 (sub ! 0 refl (whole !))))) (from ! (stop !)) (init ! 16 refl (tt, record { fits = LL.owed M3.the-type M3′.the-laws h-groups _ was-groups .0 .1 })) $
-        -- [the locals; cell-groups; open-groups; obs-groups; auth-groups; t-variables; O-variables; O-curves; O-functions; O-values; O-blocks; O-request; O-reply; t-curves; t-functions; t-values; t-blocks; t-request; t-reply]
+        -- [the locals; cell-groups; open-groups; obs-groups; auth-groups; t-variables; O-variables; handed]
         assigns ! (addr ! (from ! (stop !))) (from ! (stop !)) (init ! 21 refl (tt, tt)) $
         assigns ! (addr ! (from ! (stop !))) (from ! (stop !)) (init ! 22 refl (tt, tt)) $
         assigns ! (addr ! (from ! (stop !))) (from ! (stop !)) (init ! 23 refl (tt, tt)) $
@@ -299,7 +299,7 @@ module _ (turnOf : TurnOf) (agree : Agree turnOf) (kt kc : Name) {M : Type 1} (�
         use1 W (later (some (λ (l : Loan). ‵ (token l) ⊛ ‵ (lentPlaces w64 5 b-groups (o-groups + 8) l (h-groups .sets)) ⊛ keptPlaces w64 5 b-groups (o-groups + 8) 𝓤 H A W (Cell-groups fullShare (h-groups .count)) l)))
         (lends-places w64 5 b-groups (o-groups + 8) 𝓤 H A W (Cell-groups fullShare (h-groups .count)) (Cell-groups fullShare (h-groups .count) (numbersVal w64 (h-groups .sets))) (h-groups .sets) (subst (λ (xs : List ℕ). AreNumbers w64 5 xs) (map-id (h-groups .sets)) (LL.owed M3.the-type M3′.the-laws h-groups _ was-groups .1 .0)) (part-groups fullShare (h-groups .count) (numbersVal w64 (h-groups .sets)))) $ await ! tt $ pick ! (λ loan-groups.
         split ! $ move ! (1 ∷ []) $ split ! $
-        move ! (5 ∷ 3 ∷ 2 ∷ 0 ∷ span 40 12) $ group ! 16 $ use1 W (raw (Work 𝓤 H A turnOf .pre (to-work (places l-12 l-13 l-14) ls′ loan-groups)) ⊛ ‵ O-curves ⊛ ‵ O-functions ⊛ ‵ O-request) (goes-work (places l-12 l-13 l-14) ls′ loan-groups (is .1) was-groups) $ split ! $
+        move ! (5 ∷ 3 ∷ 2 ∷ 0 ∷ 40 ∷ []) $ group ! 5 $ use1 W (raw (Work 𝓤 H A turnOf .pre (to-work (places l-12 l-13 l-14) ls′ loan-groups)) ⊛ ‵ O-curves ⊛ ‵ O-functions ⊛ ‵ O-request) (goes-work (places l-12 l-13 l-14) ls′ loan-groups (is .1) was-groups) $ split ! $
         -- [pre; copies; kept-groups; kept; the locals; open-groups; obs-groups; auth-groups; t-variables; O-variables]
         calls-at ! fm (Work 𝓤 H A turnOf) known-work (to-work (places l-12 l-13 l-14) ls′ loan-groups) (and-then ! (load ! (from ! (stop !)) (look ! 16 refl)) (and-then ! (load ! (from ! (stop !)) (look ! 22 refl)) (and-then ! (load ! (from ! (stop !)) (look ! 23 refl)) (and-then ! (load ! (from ! (stop !)) (look ! 24 refl)) (and-then ! (load ! (from ! (stop !)) (look ! 6 refl)) (and-then ! (load ! (from ! (stop !)) (look ! 7 refl)) (and-then ! (load ! (from ! (stop !)) (look ! 17 refl)) (and-then ! (load ! (from ! (stop !)) (look ! 25 refl)) (and-then ! (load ! (from ! (stop !)) (look ! 9 refl)) (and-then ! (load ! (from ! (stop !)) (look ! 10 refl)) (and-then ! (load ! (from ! (stop !)) (look ! 11 refl)) (and-then ! (load ! (from ! (stop !)) (look ! 27 refl)) (and-then ! (load ! (from ! (stop !)) (look ! 29 refl)) (and-then ! (load ! (from ! (stop !)) (look ! 14 refl)) (and-then ! (load ! (from ! (stop !)) (look ! 31 refl)) (no-more !)))))))))))))))) (λ u′.
         use1 W (later (some (λ (y : Ans). given (Known u′ y) (Tokens 𝓤 H A W (places l-12 l-13 l-14) ls′ ⊛ ‵ (token loan-groups) ⊛ ‵ (lastPlaces w64 5 b-groups (o-groups + 8) loan-groups (y .1 .0)) ⊛ Had y)))) (told-work (places l-12 l-13 l-14) ls′ loan-groups u′) $ await ! tt $ pick ! (λ y. learn ! (λ e.

@@ -237,10 +237,10 @@ module _ (turnOf : TurnOf) (agree : Agree turnOf) (kt kc : Name) {M : Type 1} (�
     walk : Room M1.the-row (length (now variables)) → Room u32 (length (now curves)) → Room u8 (length (now functions)) → Room u8 (length (now values)) → Room u8 (length (now blocks)) → Room u8 (length (now output)) → Room u8 (length (now reply)) → ent 𝓤 (onEntry 𝓤 H A signature (bound .0 .0) (bound .0 .1) a at) (WpFn 𝓤 H C Λ (function kt kc) (slice variables ∷ slice curves ∷ slice functions ∷ vptr b-groups o-groups ∷ slice values ∷ slice blocks ∷ vint w64 number ∷ vbool due ∷ vbool failed ∷ vint w8 error ∷ slice output ∷ slice reply ∷ []) Post)
     walk g-variables g-curves g-functions g-values g-blocks g-output g-reply =
         qed W ((‵ (flft κ-variables q-variables) ⊛ ‵ (flft κ-curves q-curves) ⊛ ‵ (flft κ-functions q-functions) ⊛ ‵ (flft κ-groups q-groups) ⊛ ‵ (flft κ-values q-values) ⊛ ‵ (flft κ-blocks q-blocks) ⊛ ‵ (flft κ-output q-output) ⊛ ‵ (flft κ-reply q-reply) ⊛ ‵ ftrue) ∷ (‵ O-variables ⊛ ‵ O-curves ⊛ ‵ O-functions ⊛ ‵ (ShrRef (named 3) κ-groups M2.the-row .own x-groups (vptr b-groups o-groups ∷ [])) ⊛ ‵ O-values ⊛ ‵ O-blocks ⊛ ‵ (usize .own number (vint w64 number ∷ [])) ⊛ ‵ (Boolean .own due (vbool due ∷ [])) ⊛ ‵ (Boolean .own failed (vbool failed ∷ [])) ⊛ ‵ (u8 .own error (vint w8 error ∷ [])) ⊛ ‵ O-output ⊛ ‵ O-reply ⊛ ‵ ftrue) ∷ []) ∵
-        split ! $ move ! (1 ∷ []) $ split ! $ move ! (1 ∷ []) $ split ! $ move ! (1 ∷ []) $ split ! $ move ! (1 ∷ []) $ split ! $ move ! (1 ∷ []) $ split ! $ move ! (1 ∷ []) $ split ! $ move ! (1 ∷ []) $ split ! $ move ! (9 ∷ []) $ split ! $ move ! (1 ∷ []) $ split ! $ move ! (1 ∷ []) $ split ! $ move ! (1 ∷ []) $ split ! $ move ! (1 ∷ []) $ split ! $ move ! (1 ∷ []) $ split ! $ move ! (1 ∷ []) $ split ! $ move ! (1 ∷ []) $ split ! $ move ! (1 ∷ []) $ split ! $ move ! (1 ∷ []) $ split ! $ move ! (1 ∷ []) $ split ! $ move ! (1 ∷ []) $ split ! $ move ! (9 ∷ []) $ fsplit3 ! $ drop ! $ keep ! (13 ∷ 12 ∷ 11 ∷ 0 ∷ 1 ∷ 10 ∷ 9 ∷ 4 ∷ 2 ∷ 22 ∷ 21 ∷ 20 ∷ 19 ∷ 18 ∷ 17 ∷ 16 ∷ 14 ∷ []) $ enter ! C Λ (function kt kc) (slice variables ∷ slice curves ∷ slice functions ∷ vptr b-groups o-groups ∷ slice values ∷ slice blocks ∷ vint w64 number ∷ vbool due ∷ vbool failed ∷ vint w8 error ∷ slice output ∷ slice reply ∷ []) _ $
+        split ! $ move ! (1 ∷ []) $ split ! $ move ! (1 ∷ []) $ split ! $ move ! (1 ∷ []) $ split ! $ move ! (1 ∷ []) $ split ! $ move ! (1 ∷ []) $ split ! $ move ! (1 ∷ []) $ split ! $ move ! (1 ∷ []) $ split ! $ move ! (9 ∷ []) $ split ! $ move ! (1 ∷ []) $ split ! $ move ! (1 ∷ []) $ split ! $ move ! (1 ∷ []) $ split ! $ move ! (1 ∷ []) $ split ! $ move ! (1 ∷ []) $ split ! $ move ! (1 ∷ []) $ split ! $ move ! (1 ∷ []) $ split ! $ move ! (1 ∷ []) $ split ! $ move ! (1 ∷ []) $ split ! $ move ! (1 ∷ []) $ split ! $ move ! (1 ∷ []) $ split ! $ move ! (9 ∷ []) $ fsplit3 ! $ drop ! $ keep ! (13 ∷ 12 ∷ 11 ∷ 0 ∷ 1 ∷ 10 ∷ 9 ∷ 4 ∷ 2 ∷ 22 ∷ 21 ∷ 20 ∷ 19 ∷ 18 ∷ 17 ∷ 16 ∷ 14 ∷ []) $ move ! (1 ∷ 2 ∷ 5 ∷ 6 ∷ 7 ∷ 8 ∷ 10 ∷ 11 ∷ 13 ∷ 14 ∷ 15 ∷ 16 ∷ []) $ group ! 12 $ enter ! C Λ (function kt kc) (slice variables ∷ slice curves ∷ slice functions ∷ vptr b-groups o-groups ∷ slice values ∷ slice blocks ∷ vint w64 number ∷ vbool due ∷ vbool failed ∷ vint w8 error ∷ slice output ∷ slice reply ∷ []) _ $
         enters ! (λ l-0 l-1 l-2 l-3 l-4 l-5 l-6 l-7 l-8 l-9 l-10 l-11 l-12 l-13 l-14 l-15 l-16 l-17 l-18 l-19 l-20 l-21 l-22 l-23 l-24 l-25 l-26. params1 ! $
         pass1 ! (init ! 1 refl (tt, (tt, (record { fits = g-variables .0 }, tt)))) $ pass1 ! (init ! 2 refl (tt, (tt, (record { fits = g-curves .0 }, tt)))) $ pass1 ! (init ! 3 refl (tt, (tt, (record { fits = g-functions .0 }, tt)))) $ pass1 ! (init ! 4 refl (tt, tt)) $ pass1 ! (init ! 5 refl (tt, (tt, (record { fits = g-values .0 }, tt)))) $ pass1 ! (init ! 6 refl (tt, (tt, (record { fits = g-blocks .0 }, tt)))) $ pass1 ! (init ! 7 refl (tt, record { fits = is-number .1 })) $ pass1 ! (init ! 8 refl (tt, tt)) $ pass1 ! (init ! 9 refl (tt, tt)) $ pass1 ! (init ! 10 refl (tt, record { fits = is-error .1 })) $ pass1 ! (init ! 11 refl (tt, (tt, (record { fits = g-output .0 }, tt)))) $ pass1 ! (init ! 12 refl (tt, (tt, (record { fits = g-reply .0 }, tt)))) $ pass0 ! $
-        -- [the locals; O-variables; O-curves; O-functions; obs-groups; bor-groups; O-values; O-blocks; O-output; O-reply; t-variables; t-curves; t-functions; t-groups; t-values; t-blocks; t-output; t-reply]
+        -- [the locals; handed; O-variables; obs-groups; bor-groups; t-variables; t-groups]
         assigns ! (rep ! 64 (lit ! tt)) (from ! (stop !)) (init ! 13 refl (blank-typed 𝓤 H A W)) $
         assigns ! (rep ! 64 (lit ! tt)) (from ! (stop !)) (init ! 14 refl (blank-typed 𝓤 H A W)) $
         assigns ! (rep ! 64 (lit ! tt)) (from ! (stop !)) (init ! 15 refl (blank-typed 𝓤 H A W)) $
@@ -250,18 +250,18 @@ module _ (turnOf : TurnOf) (agree : Agree turnOf) (kt kc : Name) {M : Type 1} (�
         move ! (13 ∷ 14 ∷ 15 ∷ []) $ group ! 3 $
         use1 W (later (some (λ (l : Loans). Tokens 𝓤 H A W (places l-13 l-14 l-15) l ⊛ Each 𝓤 H A W (places l-13 l-14 l-15) byMut blanks l ⊛ Each 𝓤 H A W (places l-13 l-14 l-15) keptMut blanks l))) (lends-mut 𝓤 H A W (places l-13 l-14 l-15) blanks blanks-are) $ await ! tt $ pick ! (λ ls.
         split ! $ move ! (1 ∷ []) $ split ! $
-        move ! (28 ∷ 37 ∷ 2 ∷ 0 ∷ []) $ group ! 4 $ use1 W (raw (TableOf 𝓤 H A at-mem run .pre (to-table (places l-13 l-14 l-15) ls)) ⊛ ‵ O-variables) (goes-table (places l-13 l-14 l-15) ls) $ split ! $
-        -- [pre; O-variables; kept; the locals; O-curves; O-functions; obs-groups; bor-groups; O-values; O-blocks; O-output; O-reply; t-curves; t-functions; t-groups; t-values; t-blocks; t-output; t-reply]
+        move ! (29 ∷ 32 ∷ 2 ∷ 0 ∷ []) $ group ! 4 $ use1 W (raw (TableOf 𝓤 H A at-mem run .pre (to-table (places l-13 l-14 l-15) ls)) ⊛ ‵ O-variables) (goes-table (places l-13 l-14 l-15) ls) $ split ! $
+        -- [pre; O-variables; kept; the locals; handed; obs-groups; bor-groups; t-groups]
         calls-at ! fm (TableOf 𝓤 H A at-mem run) known-table (to-table (places l-13 l-14 l-15) ls) (and-then ! (load ! (from ! (stop !)) (look ! 4 refl)) (and-then ! (load ! (from ! (stop !)) (look ! 18 refl)) (and-then ! (load ! (from ! (stop !)) (look ! 19 refl)) (and-then ! (load ! (from ! (stop !)) (look ! 20 refl)) (no-more !))))) (λ u.
         use1 W (later (given ((u ≡ vint w64 (tbl .count)) × Counted) (‵ (flft κ-variables q-variables) ⊛ Tokens 𝓤 H A W (places l-13 l-14 l-15) ls ⊛ Each 𝓤 H A W (places l-13 l-14 l-15) last tbl ls))) (told-table (places l-13 l-14 l-15) ls u) $ await ! tt $ learn ! (λ is.
         split ! $ move ! (1 ∷ []) $ split ! $ move ! (0 ∷ 4 ∷ 1 ∷ []) $ group ! 3 $
         use1 W (later (given (AreColumns tbl) (Cells 𝓤 H A W (places l-13 l-14 l-15) tbl))) (mut-back 𝓤 H A W (places l-13 l-14 l-15) tbl ls) $ await ! tt $ learn ! (λ are.
         split ! $ move ! (1 ∷ []) $ split ! $ move ! (span 5 13 ++ (2 ∷ 0 ∷ 1 ∷ span 18 12)) $ land ! (from ! (stop !)) (init ! 16 refl (subst (λ (w : Val). Holds (hasTy (tyInt w64) w) × WT w) (sym (is .0)) (tt, record { fits = is .1 }))) $ rewrite ! 16 (λ (w : Val). ‵ (fat fullShare (tyInt w64) l-16 0 w)) (is .0) refl $
-        -- [the locals; t-variables; O-variables; O-curves; O-functions; obs-groups; bor-groups; O-values; O-blocks; O-output; O-reply; t-curves; t-functions; t-groups; t-values; t-blocks; t-output; t-reply]
-        move ! (33 ∷ 40 ∷ []) $
+        -- [the locals; t-variables; O-variables; handed; obs-groups; bor-groups; t-groups]
+        move ! (32 ∷ 33 ∷ []) $
         looks ! tt M2.the-row (Is M2.the-row) (shows 𝓤 H A M2.the-row) (LL.vals M2.the-type M2′.the-laws) (LL.tells M2.the-type M2′.the-laws) (LL.copy M2.the-type M2′.the-copy 𝓤 H A W) h-groups b-groups o-groups (λ q′-groups vs-groups. spelt ! M2.the-row (Is M2.the-row) (shows 𝓤 H A M2.the-row) (LL.vals M2.the-type M2′.the-laws) (LL.tells M2.the-type M2′.the-laws) q′-groups h-groups vs-groups b-groups o-groups $ move ! (1 ∷ []) $ peeks ! M2.the-row (Is M2.the-row) (shows 𝓤 H A M2.the-row) h-groups (LL.val M2.the-type M2′.the-laws h-groups ∷ []) (λ was-groups. move ! (1 ∷ 0 ∷ []) $
         move ! (span 4 28) $ rewrite ! 28 (λ (xs : List ℕ). Cell-groups q′-groups (h-groups .count) (numbersVal w64 xs)) (map-id (h-groups .sets)) refl $ assigns ! (of-opd ! (load ! (from ! (hop ! (look ! 4 refl) (fld ! refl (stop !)))) (look-in ! 28 (sub ! 0 refl (whole !))))) (from ! (stop !)) (init ! 17 refl (tt, record { fits = LL.owed M2.the-type M2′.the-laws h-groups _ was-groups .0 .1 })) $
-        -- [the locals; cell-groups; own-groups; open-groups; bor-groups; t-variables; O-variables; O-curves; O-functions; obs-groups; O-values; O-blocks; O-output; O-reply; t-curves; t-functions; t-values; t-blocks; t-output; t-reply]
+        -- [the locals; cell-groups; own-groups; open-groups; bor-groups; t-variables; O-variables; handed; obs-groups]
         assigns ! (addr ! (from ! (stop !))) (from ! (stop !)) (init ! 21 refl (tt, tt)) $
         assigns ! (addr ! (from ! (stop !))) (from ! (stop !)) (init ! 22 refl (tt, tt)) $
         assigns ! (addr ! (from ! (stop !))) (from ! (stop !)) (init ! 23 refl (tt, tt)) $
@@ -275,7 +275,7 @@ module _ (turnOf : TurnOf) (agree : Agree turnOf) (kt kc : Name) {M : Type 1} (�
         use1 W (later (some (λ (l : Loan). ‵ (token l) ⊛ ‵ (shownPlaces w64 5 b-groups (o-groups + 8) l (h-groups .sets)) ⊛ keptShown w64 5 b-groups (o-groups + 8) 𝓤 H A W q′-groups (Cell-groups q′-groups (h-groups .count)) l (h-groups .sets))))
         (shows-places w64 5 b-groups (o-groups + 8) 𝓤 H A W q′-groups (Cell-groups q′-groups (h-groups .count)) (Cell-groups q′-groups (h-groups .count) (numbersVal w64 (h-groups .sets))) (h-groups .sets) (subst (λ (xs : List ℕ). AreNumbers w64 5 xs) (map-id (h-groups .sets)) (LL.owed M2.the-type M2′.the-laws h-groups _ was-groups .1 .0)) (part-groups q′-groups (h-groups .count) (numbersVal w64 (h-groups .sets)))) $ await ! tt $ pick ! (λ loan-groups.
         split ! $ move ! (1 ∷ []) $ split ! $
-        move ! (5 ∷ 3 ∷ 2 ∷ 0 ∷ 36 ∷ 37 ∷ span 39 10) $ group ! 16 $ use1 W (raw (Work 𝓤 H A turnOf .pre (to-work (places l-13 l-14 l-15) ls′ loan-groups)) ⊛ ‵ O-curves ⊛ ‵ O-functions ⊛ ‵ O-values ⊛ ‵ O-blocks ⊛ ‵ O-output) (goes-work (places l-13 l-14 l-15) ls′ loan-groups (is .1) was-groups) $ split ! $
+        move ! (5 ∷ 3 ∷ 2 ∷ 0 ∷ 36 ∷ []) $ group ! 5 $ use1 W (raw (Work 𝓤 H A turnOf .pre (to-work (places l-13 l-14 l-15) ls′ loan-groups)) ⊛ ‵ O-curves ⊛ ‵ O-functions ⊛ ‵ O-values ⊛ ‵ O-blocks ⊛ ‵ O-output) (goes-work (places l-13 l-14 l-15) ls′ loan-groups (is .1) was-groups) $ split ! $
         -- [pre; copies; kept-groups; kept; the locals; own-groups; open-groups; bor-groups; t-variables; O-variables; obs-groups]
         calls-at ! fm (Work 𝓤 H A turnOf) known-work (to-work (places l-13 l-14 l-15) ls′ loan-groups) (and-then ! (load ! (from ! (stop !)) (look ! 17 refl)) (and-then ! (load ! (from ! (stop !)) (look ! 22 refl)) (and-then ! (load ! (from ! (stop !)) (look ! 23 refl)) (and-then ! (load ! (from ! (stop !)) (look ! 24 refl)) (and-then ! (load ! (from ! (stop !)) (look ! 6 refl)) (and-then ! (load ! (from ! (stop !)) (look ! 7 refl)) (and-then ! (load ! (from ! (stop !)) (look ! 18 refl)) (and-then ! (load ! (from ! (stop !)) (look ! 25 refl)) (and-then ! (load ! (from ! (stop !)) (look ! 9 refl)) (and-then ! (load ! (from ! (stop !)) (look ! 10 refl)) (and-then ! (load ! (from ! (stop !)) (look ! 11 refl)) (and-then ! (load ! (from ! (stop !)) (look ! 12 refl)) (and-then ! (load ! (from ! (stop !)) (look ! 13 refl)) (and-then ! (load ! (from ! (stop !)) (look ! 14 refl)) (and-then ! (load ! (from ! (stop !)) (look ! 15 refl)) (and-then ! (load ! (from ! (stop !)) (look ! 27 refl)) (no-more !))))))))))))))))) (λ u′.
         use1 W (later (some (λ (y : Ans). given (Known u′ y) (Tokens 𝓤 H A W (places l-13 l-14 l-15) ls′ ⊛ ‵ (token loan-groups) ⊛ Had y)))) (told-work (places l-13 l-14 l-15) ls′ loan-groups u′) $ await ! tt $ pick ! (λ y. learn ! (λ e.

@@ -230,10 +230,10 @@ module _ (turnOf : TurnOf) (agree : Agree turnOf) (kt kc : Name) {M : Type 1} (�
     walk : Room M0.the-row (length (now variables)) → Room u32 (length (now curves)) → Room u8 (length (now functions)) → Room u8 (length (now values)) → Room u8 (length (now blocks)) → Room u8 (length (now bytes)) → ent 𝓤 (onEntry 𝓤 H A signature (bound .0 .0) (bound .0 .1) a at) (WpFn 𝓤 H C Λ (function kt kc) (slice variables ∷ slice curves ∷ slice functions ∷ vptr b-groups o-groups ∷ slice values ∷ slice blocks ∷ vint w64 number ∷ slice bytes ∷ []) Post)
     walk g-variables g-curves g-functions g-values g-blocks g-bytes =
         qed W ((‵ (flft κ-variables q-variables) ⊛ ‵ (flft κ-curves q-curves) ⊛ ‵ (flft κ-functions q-functions) ⊛ ‵ (flft κ-groups q-groups) ⊛ ‵ (flft κ-values q-values) ⊛ ‵ (flft κ-blocks q-blocks) ⊛ ‵ (flft κ-bytes q-bytes) ⊛ ‵ ftrue) ∷ (‵ O-variables ⊛ ‵ O-curves ⊛ ‵ O-functions ⊛ ‵ (ShrRef (named 3) κ-groups M1.the-row .own x-groups (vptr b-groups o-groups ∷ [])) ⊛ ‵ O-values ⊛ ‵ O-blocks ⊛ ‵ (usize .own number (vint w64 number ∷ [])) ⊛ ‵ O-bytes ⊛ ‵ ftrue) ∷ []) ∵
-        split ! $ move ! (1 ∷ []) $ split ! $ move ! (1 ∷ []) $ split ! $ move ! (1 ∷ []) $ split ! $ move ! (1 ∷ []) $ split ! $ move ! (1 ∷ []) $ split ! $ move ! (1 ∷ []) $ split ! $ move ! (8 ∷ []) $ split ! $ move ! (1 ∷ []) $ split ! $ move ! (1 ∷ []) $ split ! $ move ! (1 ∷ []) $ split ! $ move ! (1 ∷ []) $ split ! $ move ! (1 ∷ []) $ split ! $ move ! (1 ∷ []) $ split ! $ move ! (1 ∷ []) $ split ! $ move ! (5 ∷ []) $ fsplit3 ! $ drop ! $ keep ! (9 ∷ 8 ∷ 7 ∷ 0 ∷ 1 ∷ 6 ∷ 5 ∷ 2 ∷ 17 ∷ 16 ∷ 15 ∷ 14 ∷ 13 ∷ 12 ∷ 10 ∷ []) $ enter ! C Λ (function kt kc) (slice variables ∷ slice curves ∷ slice functions ∷ vptr b-groups o-groups ∷ slice values ∷ slice blocks ∷ vint w64 number ∷ slice bytes ∷ []) _ $
+        split ! $ move ! (1 ∷ []) $ split ! $ move ! (1 ∷ []) $ split ! $ move ! (1 ∷ []) $ split ! $ move ! (1 ∷ []) $ split ! $ move ! (1 ∷ []) $ split ! $ move ! (1 ∷ []) $ split ! $ move ! (8 ∷ []) $ split ! $ move ! (1 ∷ []) $ split ! $ move ! (1 ∷ []) $ split ! $ move ! (1 ∷ []) $ split ! $ move ! (1 ∷ []) $ split ! $ move ! (1 ∷ []) $ split ! $ move ! (1 ∷ []) $ split ! $ move ! (1 ∷ []) $ split ! $ move ! (5 ∷ []) $ fsplit3 ! $ drop ! $ keep ! (9 ∷ 8 ∷ 7 ∷ 0 ∷ 1 ∷ 6 ∷ 5 ∷ 2 ∷ 17 ∷ 16 ∷ 15 ∷ 14 ∷ 13 ∷ 12 ∷ 10 ∷ []) $ move ! (1 ∷ 2 ∷ 5 ∷ 6 ∷ 7 ∷ 9 ∷ 10 ∷ 12 ∷ 13 ∷ 14 ∷ []) $ group ! 10 $ enter ! C Λ (function kt kc) (slice variables ∷ slice curves ∷ slice functions ∷ vptr b-groups o-groups ∷ slice values ∷ slice blocks ∷ vint w64 number ∷ slice bytes ∷ []) _ $
         enters ! (λ l-0 l-1 l-2 l-3 l-4 l-5 l-6 l-7 l-8 l-9 l-10 l-11 l-12 l-13 l-14 l-15 l-16 l-17 l-18 l-19 l-20 l-21 l-22. params1 ! $
         pass1 ! (init ! 1 refl (tt, (tt, (record { fits = g-variables .0 }, tt)))) $ pass1 ! (init ! 2 refl (tt, (tt, (record { fits = g-curves .0 }, tt)))) $ pass1 ! (init ! 3 refl (tt, (tt, (record { fits = g-functions .0 }, tt)))) $ pass1 ! (init ! 4 refl (tt, tt)) $ pass1 ! (init ! 5 refl (tt, (tt, (record { fits = g-values .0 }, tt)))) $ pass1 ! (init ! 6 refl (tt, (tt, (record { fits = g-blocks .0 }, tt)))) $ pass1 ! (init ! 7 refl (tt, record { fits = is-number .1 })) $ pass1 ! (init ! 8 refl (tt, (tt, (record { fits = g-bytes .0 }, tt)))) $ pass0 ! $
-        -- [the locals; O-variables; O-curves; O-functions; obs-groups; bor-groups; O-values; O-blocks; O-bytes; t-variables; t-curves; t-functions; t-groups; t-values; t-blocks; t-bytes]
+        -- [the locals; handed; O-variables; obs-groups; bor-groups; t-variables; t-groups]
         assigns ! (rep ! 64 (lit ! tt)) (from ! (stop !)) (init ! 9 refl (blank-typed 𝓤 H A W)) $
         assigns ! (rep ! 64 (lit ! tt)) (from ! (stop !)) (init ! 10 refl (blank-typed 𝓤 H A W)) $
         assigns ! (rep ! 64 (lit ! tt)) (from ! (stop !)) (init ! 11 refl (blank-typed 𝓤 H A W)) $
@@ -243,18 +243,18 @@ module _ (turnOf : TurnOf) (agree : Agree turnOf) (kt kc : Name) {M : Type 1} (�
         move ! (9 ∷ 10 ∷ 11 ∷ []) $ group ! 3 $
         use1 W (later (some (λ (l : Loans). Tokens 𝓤 H A W (places l-9 l-10 l-11) l ⊛ Each 𝓤 H A W (places l-9 l-10 l-11) byMut blanks l ⊛ Each 𝓤 H A W (places l-9 l-10 l-11) keptMut blanks l))) (lends-mut 𝓤 H A W (places l-9 l-10 l-11) blanks blanks-are) $ await ! tt $ pick ! (λ ls.
         split ! $ move ! (1 ∷ []) $ split ! $
-        move ! (24 ∷ 32 ∷ 2 ∷ 0 ∷ []) $ group ! 4 $ use1 W (raw (TableOf 𝓤 H A at-mem run .pre (to-table (places l-9 l-10 l-11) ls)) ⊛ ‵ O-variables) (goes-table (places l-9 l-10 l-11) ls) $ split ! $
-        -- [pre; O-variables; kept; the locals; O-curves; O-functions; obs-groups; bor-groups; O-values; O-blocks; O-bytes; t-curves; t-functions; t-groups; t-values; t-blocks; t-bytes]
+        move ! (25 ∷ 28 ∷ 2 ∷ 0 ∷ []) $ group ! 4 $ use1 W (raw (TableOf 𝓤 H A at-mem run .pre (to-table (places l-9 l-10 l-11) ls)) ⊛ ‵ O-variables) (goes-table (places l-9 l-10 l-11) ls) $ split ! $
+        -- [pre; O-variables; kept; the locals; handed; obs-groups; bor-groups; t-groups]
         calls-at ! fm (TableOf 𝓤 H A at-mem run) known-table (to-table (places l-9 l-10 l-11) ls) (and-then ! (load ! (from ! (stop !)) (look ! 4 refl)) (and-then ! (load ! (from ! (stop !)) (look ! 14 refl)) (and-then ! (load ! (from ! (stop !)) (look ! 15 refl)) (and-then ! (load ! (from ! (stop !)) (look ! 16 refl)) (no-more !))))) (λ u.
         use1 W (later (given ((u ≡ vint w64 (tbl .count)) × Counted) (‵ (flft κ-variables q-variables) ⊛ Tokens 𝓤 H A W (places l-9 l-10 l-11) ls ⊛ Each 𝓤 H A W (places l-9 l-10 l-11) last tbl ls))) (told-table (places l-9 l-10 l-11) ls u) $ await ! tt $ learn ! (λ is.
         split ! $ move ! (1 ∷ []) $ split ! $ move ! (0 ∷ 4 ∷ 1 ∷ []) $ group ! 3 $
         use1 W (later (given (AreColumns tbl) (Cells 𝓤 H A W (places l-9 l-10 l-11) tbl))) (mut-back 𝓤 H A W (places l-9 l-10 l-11) tbl ls) $ await ! tt $ learn ! (λ are.
         split ! $ move ! (1 ∷ []) $ split ! $ move ! (span 5 9 ++ (2 ∷ 0 ∷ 1 ∷ span 14 12)) $ land ! (from ! (stop !)) (init ! 12 refl (subst (λ (w : Val). Holds (hasTy (tyInt w64) w) × WT w) (sym (is .0)) (tt, record { fits = is .1 }))) $ rewrite ! 12 (λ (w : Val). ‵ (fat fullShare (tyInt w64) l-12 0 w)) (is .0) refl $
-        -- [the locals; t-variables; O-variables; O-curves; O-functions; obs-groups; bor-groups; O-values; O-blocks; O-bytes; t-curves; t-functions; t-groups; t-values; t-blocks; t-bytes]
-        move ! (29 ∷ 35 ∷ []) $
+        -- [the locals; t-variables; O-variables; handed; obs-groups; bor-groups; t-groups]
+        move ! (28 ∷ 29 ∷ []) $
         looks ! tt M1.the-row (Is M1.the-row) (shows 𝓤 H A M1.the-row) (LL.vals M1.the-type M1′.the-laws) (LL.tells M1.the-type M1′.the-laws) (LL.copy M1.the-type M1′.the-copy 𝓤 H A W) h-groups b-groups o-groups (λ q′-groups vs-groups. spelt ! M1.the-row (Is M1.the-row) (shows 𝓤 H A M1.the-row) (LL.vals M1.the-type M1′.the-laws) (LL.tells M1.the-type M1′.the-laws) q′-groups h-groups vs-groups b-groups o-groups $ move ! (1 ∷ []) $ peeks ! M1.the-row (Is M1.the-row) (shows 𝓤 H A M1.the-row) h-groups (LL.val M1.the-type M1′.the-laws h-groups ∷ []) (λ was-groups. move ! (1 ∷ 0 ∷ []) $
         move ! (span 4 24) $ rewrite ! 24 (λ (xs : List ℕ). Cell-groups q′-groups (h-groups .count) (numbersVal w64 xs)) (map-id (h-groups .sets)) refl $ assigns ! (of-opd ! (load ! (from ! (hop ! (look ! 4 refl) (fld ! refl (stop !)))) (look-in ! 24 (sub ! 0 refl (whole !))))) (from ! (stop !)) (init ! 13 refl (tt, record { fits = LL.owed M1.the-type M1′.the-laws h-groups _ was-groups .0 .1 })) $
-        -- [the locals; cell-groups; own-groups; open-groups; bor-groups; t-variables; O-variables; O-curves; O-functions; obs-groups; O-values; O-blocks; O-bytes; t-curves; t-functions; t-values; t-blocks; t-bytes]
+        -- [the locals; cell-groups; own-groups; open-groups; bor-groups; t-variables; O-variables; handed; obs-groups]
         assigns ! (addr ! (from ! (stop !))) (from ! (stop !)) (init ! 17 refl (tt, tt)) $
         assigns ! (addr ! (from ! (stop !))) (from ! (stop !)) (init ! 18 refl (tt, tt)) $
         assigns ! (addr ! (from ! (stop !))) (from ! (stop !)) (init ! 19 refl (tt, tt)) $
@@ -268,7 +268,7 @@ module _ (turnOf : TurnOf) (agree : Agree turnOf) (kt kc : Name) {M : Type 1} (�
         use1 W (later (some (λ (l : Loan). ‵ (token l) ⊛ ‵ (shownPlaces w64 5 b-groups (o-groups + 8) l (h-groups .sets)) ⊛ keptShown w64 5 b-groups (o-groups + 8) 𝓤 H A W q′-groups (Cell-groups q′-groups (h-groups .count)) l (h-groups .sets))))
         (shows-places w64 5 b-groups (o-groups + 8) 𝓤 H A W q′-groups (Cell-groups q′-groups (h-groups .count)) (Cell-groups q′-groups (h-groups .count) (numbersVal w64 (h-groups .sets))) (h-groups .sets) (subst (λ (xs : List ℕ). AreNumbers w64 5 xs) (map-id (h-groups .sets)) (LL.owed M1.the-type M1′.the-laws h-groups _ was-groups .1 .0)) (part-groups q′-groups (h-groups .count) (numbersVal w64 (h-groups .sets)))) $ await ! tt $ pick ! (λ loan-groups.
         split ! $ move ! (1 ∷ []) $ split ! $
-        move ! (5 ∷ 3 ∷ 2 ∷ 0 ∷ 32 ∷ 33 ∷ span 35 8) $ group ! 14 $ use1 W (raw (Work 𝓤 H A turnOf .pre (to-work (places l-9 l-10 l-11) ls′ loan-groups)) ⊛ ‵ O-curves ⊛ ‵ O-functions ⊛ ‵ O-blocks ⊛ ‵ O-bytes) (goes-work (places l-9 l-10 l-11) ls′ loan-groups (is .1) was-groups) $ split ! $
+        move ! (5 ∷ 3 ∷ 2 ∷ 0 ∷ 32 ∷ []) $ group ! 5 $ use1 W (raw (Work 𝓤 H A turnOf .pre (to-work (places l-9 l-10 l-11) ls′ loan-groups)) ⊛ ‵ O-curves ⊛ ‵ O-functions ⊛ ‵ O-blocks ⊛ ‵ O-bytes) (goes-work (places l-9 l-10 l-11) ls′ loan-groups (is .1) was-groups) $ split ! $
         -- [pre; copies; kept-groups; kept; the locals; own-groups; open-groups; bor-groups; t-variables; O-variables; obs-groups]
         calls-at ! fm (Work 𝓤 H A turnOf) known-work (to-work (places l-9 l-10 l-11) ls′ loan-groups) (and-then ! (load ! (from ! (stop !)) (look ! 13 refl)) (and-then ! (load ! (from ! (stop !)) (look ! 18 refl)) (and-then ! (load ! (from ! (stop !)) (look ! 19 refl)) (and-then ! (load ! (from ! (stop !)) (look ! 20 refl)) (and-then ! (load ! (from ! (stop !)) (look ! 6 refl)) (and-then ! (load ! (from ! (stop !)) (look ! 7 refl)) (and-then ! (load ! (from ! (stop !)) (look ! 14 refl)) (and-then ! (load ! (from ! (stop !)) (look ! 21 refl)) (and-then ! (load ! (from ! (stop !)) (look ! 23 refl)) (and-then ! (load ! (from ! (stop !)) (look ! 10 refl)) (and-then ! (load ! (from ! (stop !)) (look ! 11 refl)) (and-then ! (load ! (from ! (stop !)) (look ! 12 refl)) (no-more !))))))))))))) (λ u′.
         use1 W (later (some (λ (y : Ans). given (Known u′ y) (Tokens 𝓤 H A W (places l-9 l-10 l-11) ls′ ⊛ ‵ (token loan-groups) ⊛ Had y)))) (told-work (places l-9 l-10 l-11) ls′ loan-groups u′) $ await ! tt $ pick ! (λ y. learn ! (λ e.
