@@ -40,13 +40,13 @@ struct Turned {
 
 // One packet on board A, which is lent to the node.
 fn answered(
-    records: Records,
     groups: Groups,
     packet: &[u8],
     values: &mut [u8],
     blocks: &mut [u8],
     reply: &mut [u8],
 ) -> Ended {
+    let records = variables();
     let writable = records.writable;
     let sizes = records.sizes;
     let kinds = records.kinds;
@@ -81,7 +81,6 @@ fn answered(
 // One packet's line at the start of out.
 fn one(
     number: u64,
-    records: Records,
     groups: Groups,
     packet: &[u8],
     values: &mut [u8],
@@ -92,7 +91,7 @@ fn one(
     requires { ⌜ (length (now reply) ≡ 4104) × (9000 ≤ length (now out)) ⌝ }
     ensures { λ r. ⌜ r .size ≤ 9000 ⌝ }
 {
-    let d = answered(records, groups, packet, values, blocks, reply);
+    let d = answered(groups, packet, values, blocks, reply);
     let o = d.outcome;
     let a = bench_line::put_line(number, o, packet, reply, out);
     let g = d.groups;
@@ -149,7 +148,6 @@ fn step(
     buf: &[u8],
     size: usize,
     p: Place,
-    records: Records,
     values: &mut [u8],
     blocks: &mut [u8],
     reply: &mut [u8],
@@ -165,7 +163,6 @@ fn step(
     let g = p.groups;
     let t = one(
         p.number,
-        records,
         g,
         &buf[from..next],
         values,
@@ -187,7 +184,6 @@ fn drain(
     buf: &[u8],
     have: usize,
     number: u64,
-    records: Records,
     groups: Groups,
     values: &mut [u8],
     blocks: &mut [u8],
@@ -205,7 +201,7 @@ fn drain(
     };
     let mut size = whole(buf, 0, have);
     while 2 <= size {
-        p = step(buf, size, p, records, values, blocks, reply, out);
+        p = step(buf, size, p, values, blocks, reply, out);
         let at = p.at;
         size = whole(buf, at, have);
     }
@@ -256,7 +252,6 @@ fn turn(
     buf: &mut [u8],
     have: usize,
     number: u64,
-    records: Records,
     groups: Groups,
     values: &mut [u8],
     blocks: &mut [u8],
@@ -279,17 +274,7 @@ fn turn(
         };
     }
     let all = have + n;
-    let p = drain(
-        buf,
-        all,
-        number,
-        records,
-        groups,
-        values,
-        blocks,
-        reply,
-        out,
-    );
+    let p = drain(buf, all, number, groups, values, blocks, reply, out);
     let at = p.at;
     shift(buf, at, all);
     let g = p.groups;
@@ -305,7 +290,6 @@ fn turn(
 fn run(buf: &mut [u8], values: &mut [u8], blocks: &mut [u8], reply: &mut [u8], out: &mut [u8])
     requires { ⌜ (length (now reply) ≡ 4104) × (9000 ≤ length (now out)) ⌝ }
 {
-    let records = variables();
     let mut groups = Groups {
         count: 0,
         sets: [0u64; 5],
@@ -315,17 +299,7 @@ fn run(buf: &mut [u8], values: &mut [u8], blocks: &mut [u8], reply: &mut [u8], o
     let mut turns = u64::MAX;
     let mut go = true;
     while 0 < turns && go {
-        let r = turn(
-            buf,
-            have,
-            number,
-            records,
-            groups,
-            values,
-            blocks,
-            reply,
-            out,
-        );
+        let r = turn(buf, have, number, groups, values, blocks, reply, out);
         have = r.have;
         number = r.number;
         groups = r.groups;
