@@ -20,8 +20,8 @@ use Rattle.lists.proofs.Put.{put-nil, put-put, length-put, length-part, part-pu
 use Rattle.lists.proofs.Sum.{total-split}
 use Rattle.lists.proofs.Mask.{length-change, mask-nil, take-changed, drop-changed}
 use Rattle.sets.specs.Members.{membersBelow, membersOf, sizeAt, setBytes}
-use Rattle.sets.specs.Promises.{Sound, BytesAt, Turned, StartOf}
-use Rattle.members.specs.Runs.{runRead, runChanged, RunOn}
+use Rattle.sets.specs.Promises.{Sound, BytesAt, Turned, Lowest}
+use Rattle.members.specs.Runs.{StartOf, runRead, runChanged, RunOn}
 use Rattle.members.specs.declared.Run.{Run}
 use Rattle.sets.proofs.Members.{membersFrom, from-start, from-none}
 use Rattle.sets.proofs.AtOnce.{below-declared, has-past}
@@ -143,6 +143,12 @@ turned-as : {b c : Bool} {k : ℕ} {v l : List ℕ} {p f n : ℕ} {l′ : List �
 turned-as e t = rw e at t
 
 -- where a walk begins
+pub start-none : (m : ℕ) → m ≡ 0 → StartOf m 0
+start-none m e = record { few = omega arith; before = λ k h. absurd (omega (arith, h)); within = λ n h. omega arith }
+
+pub start-lowest : (m i : ℕ) → Lowest m i → StartOf m i
+start-lowest m i q = record { few = q .few; before = q .before; within = λ n h. omega (arith, q .below n h) }
+
 pub start-inside : (m n d i : ℕ) → d ≡ m % 2 ^ n → StartOf d i → i ≤ n
 start-inside m n d i e q = q .within n (rw e (mod-lt m (pow-pos n)))
 

@@ -1,14 +1,21 @@
--- Runs of members on a walk: what the lists are with the run carried over, and a turn of the walk on such lists. Assumes nothing.
+-- Where a walk begins, and runs of members on it: what the lists are with the run carried over, and a turn of the walk on such lists. Assumes nothing.
 use mathlib.Core.Path.{_≡_}
-use mathlib.Core.Bool.{Bool}
+use mathlib.Core.Bool.{Bool, false}
 use mathlib.Core.List.{List}
-use Prim.Native.Nat.{ℕ, _+_}
+use Prim.Native.Nat.{ℕ, _+_, _^_, _≤_, _<_}
 use lib.ListN.{length}
+use Rattle.bsmp.specs.Board.{variable, marked}
 use Rattle.bsmp.specs.Message.{changed}
 use Rattle.bsmp.specs.declared.Operation.{Operation}
 use Rattle.lists.specs.Put.{put, part}
 use Rattle.sets.specs.Promises.{Turned}
 use Rattle.members.specs.declared.Run.{Run}
+
+-- where a walk may begin: no member is below i
+pub record StartOf (set i : ℕ) : Type 0 where
+  pub few : i < 64
+  pub before : (k : ℕ) → k < i → marked set (variable k) ≡ false
+  pub within : (n : ℕ) → set < 2 ^ n → i ≤ n
 
 -- the reply, with the run read into it
 abbrev pub runRead : Run → (store reply : List ℕ) → List ℕ

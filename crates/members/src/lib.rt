@@ -11,7 +11,7 @@ ghost use Rattle.bsmp.specs.Message.{changed, edited, valuesOf};
 ghost use Rattle.lists.specs.Put.{put, part};
 ghost use Rattle.sets.specs.Members.{membersOf, membersBelow, sizeAt, setBytes};
 ghost use Rattle.sets.specs.Promises.{Sound, BytesAt};
-ghost use Rattle.members.specs.Runs.{runRead, runChanged, RunOn};
+ghost use Rattle.members.specs.Runs.{StartOf, runRead, runChanged, RunOn};
 
 // The bytes of all members.
 pub fn set_bytes(sizes: &[u8], set: u64) -> usize
@@ -30,6 +30,16 @@ pub fn set_bytes(sizes: &[u8], set: u64) -> usize
         rest = sets::without_lowest(rest, i);
     }
     bytes
+}
+
+// A number that no member is below: the lowest of them, if there are any.
+fn start_of(set: u64) -> usize
+    ensures { λ r. ⌜ StartOf set r ⌝ }
+{
+    if set == 0 {
+        return 0;
+    }
+    sets::lowest(set)
 }
 
 // Members that a walk met last, one right after the other, and has not carried over yet: their bytes stand together, in the store from `at` on
@@ -79,7 +89,7 @@ pub fn read_members(sizes: &[u8], set: u64, values: &[u8], reply: &mut [u8], at:
         return all;
     }
     let members = sets::declared(set, sizes.len());
-    let mut i = sets::start_of(members);
+    let mut i = start_of(members);
     let mut rest = members >> i;
     let mut run = Run {
         at: lists::offset(sizes, i),
@@ -145,7 +155,7 @@ pub fn change_members(
         return;
     }
     let written = sets::declared(set, sizes.len());
-    let mut i = sets::start_of(written);
+    let mut i = start_of(written);
     let mut rest = written >> i;
     let mut run = Run {
         at: lists::offset(sizes, i),

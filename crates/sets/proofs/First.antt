@@ -10,7 +10,7 @@ use lib.Pow.{pow-lt, pow-pos}
 use Rattle.bsmp.specs.Base.{has}
 use Rattle.bsmp.specs.Board.{variable}
 use Rattle.sets.specs.Members.{membersBelow}
-use Rattle.sets.specs.Promises.{Lowest, StartOf}
+use Rattle.sets.specs.Promises.{Lowest}
 use Rattle.sets.proofs.Marks.{has-half, has-low, bit-same}
 use Rattle.sets.proofs.AtOnce.{next, below-half}
 
@@ -93,10 +93,3 @@ mark-off m i q = rw (one-mul, mod-eq-of-lt (pow-lt (q .few)))
 -- the set gets smaller without it
 pub lowest-less : (m i m′ : ℕ) → Lowest m i → m′ ≡ m - 2 ^ i → m′ < m
 lowest-less m i m′ q e = omega (arith, q .there, pow-pos i)
-
--- where a walk may begin
-pub start-none : (m : ℕ) → m ≡ 0 → StartOf m 0
-start-none m e = record { few = omega arith; before = λ k h. absurd (omega (arith, h)); within = λ n h. omega arith }
-
-pub start-lowest : (m i : ℕ) → Lowest m i → StartOf m i
-start-lowest m i q = record { few = q .few; before = q .before; within = λ n h. omega (arith, q .below n h) }

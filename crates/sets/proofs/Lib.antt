@@ -5,3 +5,4 @@ pub mod AtOnce
 pub mod First
 pub mod Group
 pub mod Places
+pub mod Unique

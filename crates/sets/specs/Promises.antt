@@ -47,9 +47,3 @@ pub record Lowest (set i : ℕ) : Type 0 where
   pub before : (k : ℕ) → k < i → marked set (variable k) ≡ false
   pub below : (n : ℕ) → set < 2 ^ n → i < n
   pub first : (n : ℕ) → n ≤ 64 → set < 2 ^ n → membersBelow set n ≡ variable i ∷ membersBelow (set - 2 ^ i) n
-
--- no member is below i
-pub record StartOf (set i : ℕ) : Type 0 where
-  pub few : i < 64
-  pub before : (k : ℕ) → k < i → marked set (variable k) ≡ false
-  pub within : (n : ℕ) → set < 2 ^ n → i ≤ n

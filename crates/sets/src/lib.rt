@@ -9,7 +9,7 @@ ghost use lib.ListN.{length};
 ghost use Rattle.bsmp.specs.Base.{every, some};
 ghost use Rattle.bsmp.specs.Board.{marked};
 ghost use Rattle.sets.specs.Members.{membersBelow};
-ghost use Rattle.sets.specs.Promises.{Below, Named, GroupSet, Lowest, StartOf};
+ghost use Rattle.sets.specs.Promises.{Below, Named, GroupSet, Lowest};
 
 // Whether variable i is marked.
 pub fn is_marked(marks: u64, i: VariableNumber) -> bool
@@ -98,16 +98,6 @@ pub fn without_lowest(set: u64, i: usize) -> u64
     ensures { λ r. ⌜ r ≡ set - 2 ^ i ⌝ }
 {
     set - (1 << i)
-}
-
-// A number that no member is below: the lowest of them, if there are any.
-pub fn start_of(set: u64) -> usize
-    ensures { λ r. ⌜ StartOf set r ⌝ }
-{
-    if set == 0 {
-        return 0;
-    }
-    lowest(set)
 }
 
 // The set of the variables named: a union, so their order doesn't matter.
