@@ -1,4 +1,4 @@
--- The edges of 01's table of limits, computed: what is still taken and what is no more. Assumes nothing.
+-- The edges of 01's table of limits, computed: what is still taken and what is no more; and reads that meet busy marks. Assumes nothing.
 use mathlib.Core.Path.{_≡_, refl}
 use mathlib.Core.Bool.{true, false}
 use mathlib.Core.List.{List, [], _∷_, map}
@@ -8,14 +8,15 @@ use lib.IntN.{pos, negsuc}
 use lib.ListN.{length, replicate}
 use borrow.Author.Tests.{lt-ltb}
 use Rattle.bsmp.specs.Board.{variable, group, Layout, usableVariables, usableCurves, usableFunctions, usableGroups}
-use Rattle.bsmp.specs.Message.{noGroup, blockMissing, curveRecord}
-use Rattle.bsmp.specs.Packet.{Place, usablePlace, inMulticast}
+use Rattle.bsmp.specs.Message.{noGroup, blockMissing, curveRecord, judge}
+use Rattle.bsmp.specs.Packet.{Place, usablePlace, inMulticast, Ending, reply, silence, packet}
 use Rattle.bsmp.specs.Number.{Reading, is, reading, Written, bytes, writing}
-use Rattle.bsmp.specs.Examples.{hex}
+use Rattle.bsmp.specs.Examples.{hex, tableA, placeA, stateA}
 use Rattle.bsmp.specs.declared.GroupNumber.{GroupNumber}
 use Rattle.bsmp.specs.declared.Variable.{Variable}
 use Rattle.bsmp.specs.declared.Curve.{Curve}
 use Rattle.bsmp.specs.declared.Function.{Function}
+use Rattle.bsmp.specs.declared.Check.the-variants.{Pass}
 use Rattle.bsmp.specs.declared.Refusal.the-variants.{WrongByteCount, WrongKind, DoesNotFit}
 use Rattle.bsmp.proofs.Computes.{computes}
 
@@ -93,6 +94,53 @@ standard-groups gs g h = rw (lt-ltb (g .0) (3 + length gs) (omega arith))
 pub multicast-bits : map (inMulticast 0x81) (247 ∷ 248 ∷ 249 ∷ 254 ∷ 255 ∷ []) ≡ false ∷ true ∷ false ∷ false ∷ true ∷ []
 unfolding computes
 multicast-bits = refl
+
+-- 02's busy reads, computed on board A: marks, packet, and how it ends; none of them changes a byte
+abbrev e5 : Ending
+e5 = reply (hex 5 0x00_E5_00_00_1B)
+
+abbrev e8 : Ending
+e8 = reply (hex 5 0x00_E8_00_00_18)
+
+pub record Marked : Type 0 where
+  pub busy : ℕ
+  pub packet : List ℕ
+  pub ends : Ending
+
+abbrev marks : ℕ → List ℕ → Ending → Marked
+marks b p e = record { busy = b; packet = p; ends = e }
+
+abbrev pub busyRows : List Marked
+busyRows =
+    -- 10 of variable 0, and of another while it is busy
+    marks 1 (hex 6 0x05_10_00_01_00_EA) e8
+    ∷ marks 1 (hex 6 0x05_10_00_01_01_E9) (reply (hex 6 0x00_11_00_01_5A_94))
+    -- 12 of all variables with the last of them busy; of the read-only ones, which are not
+    ∷ marks 4 (hex 6 0x05_12_00_01_00_E8) e8
+    ∷ marks 6 (hex 6 0x05_12_00_01_01_E7) (reply (hex 9 0x00_13_00_04_FF_FF_FF_FD_EF))
+    -- 28 that writes 1 and reads 2: either of them busy; then by multicast
+    ∷ marks 2 (hex 8 0x05_28_00_03_01_02_77_56) e8
+    ∷ marks 4 (hex 8 0x05_28_00_03_01_02_77_56) e8
+    ∷ marks 4 (hex 8 0xF8_28_00_03_01_02_77_63) silence
+    -- E3 and E5 come before; in 28 the written one's E5 and E6 too, where only the read one is busy
+    ∷ marks 15 (hex 6 0x05_10_00_01_03_E7) (reply (hex 5 0x00_E3_00_00_1D))
+    ∷ marks 7 (hex 7 0x05_12_00_02_00_00_E7) e5
+    ∷ marks 4 (hex 9 0x05_28_00_04_01_02_77_77_DE) e5
+    ∷ marks 4 (hex 11 0x05_28_00_06_00_02_00_00_00_00_CB) (reply (hex 5 0x00_E6_00_00_1A))
+    -- bits past the last variable count for nothing
+    ∷ marks (2 ^ 64 - 8) (hex 6 0x05_10_00_01_01_E9) (reply (hex 6 0x00_11_00_01_5A_94))
+    ∷ []
+
+pub busy-reads :
+    map (λ (r : Marked). packet tableA placeA (r .busy) 4104 (r .packet) (stateA 0x5A)) busyRows
+    ≡ map (λ (r : Marked). record { ending = r .ends; state = stateA 0x5A }) busyRows
+unfolding computes
+busy-reads = refl
+
+-- an empty group is never busy: 12 of group 1 where every variable is writable and busy
+pub empty-read : judge (record { sizes = 1 ∷ []; writable = 1; curves = []; functions = [] }) [] 1 (0x12 ∷ 0 ∷ 1 ∷ 1 ∷ []) ≡ Pass
+unfolding computes
+empty-read = refl
 
 -- "Signed one-byte 80 is −128, 7F is 127; −129 and 128 are refused with 12"; 11 comes before 10
 abbrev one-byte : List Variable

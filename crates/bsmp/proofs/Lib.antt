@@ -9,12 +9,14 @@ pub mod Marks
 pub mod Examples
 pub mod Steps
 pub mod Apart
+pub mod Accepted
 pub mod Reading
 pub mod Stays
 pub mod Keeps
 pub mod Room
 pub mod Number
 pub mod Group
+pub mod Busy
 pub mod Wrong
 pub mod Lent
 pub mod Input

@@ -8,7 +8,7 @@ use Prim.Native.Nat.{ℕ, _<_}
 use lib.ListN.{length, take}
 use Rattle.bsmp.specs.Base.{some, first}
 use Rattle.bsmp.specs.Board.{Table, Layout, layout, State, valueOf, isSame, faults}
-use Rattle.bsmp.specs.Message.{Answer, say, tell, show, call, Line, asked, judge}
+use Rattle.bsmp.specs.Message.{Answer, Line, told, asked, judge}
 use Rattle.bsmp.specs.Packet.{Place, Ending, reply, silence, run, Result, isOwn, destination, message, placeTests, packetTests, packet, Ran, functionResult, boardStore}
 use Rattle.bsmp.specs.Store.{Lent, held, lentOf, bytesIn, Left, leaves}
 use Rattle.bsmp.specs.declared.VariableNumber.{VariableNumber}
@@ -38,10 +38,7 @@ happen t a (stores i b) s = boardStore t i b s
 
 -- "an answered, accepted packet reads that variable": taken off the definition's answer, no second reading of the packet
 abbrev pub tells : VariableNumber → Answer → Bool
-tells v (say c p) = false
-tells v (tell c is) = some (isSame v) is
-tells v (show c front k) = false
-tells v (call f i) = false
+tells v a = some (isSame v) (told a)
 
 abbrev pub readBy : VariableNumber → Line → Check → Bool
 readBy v l (Fail e) = false

@@ -156,18 +156,29 @@ pub record Line : Type 0 where
   pub change : Change
   pub answer : Answer
 
--- "a variable to be written is busy" comes after those tests, for every command alike, and "five groups made already" last
+-- the variables that a change writes, those whose values an answer tells, and both of a command
 abbrev pub written : Change → List VariableNumber
 written nothing = []
 written (edit op is ps) = is
 written (fill k d) = []
 written (regroup gs) = []
 
+abbrev pub told : Answer → List VariableNumber
+told (say c p) = []
+told (tell c is) = is
+told (show c front k) = []
+told (call f i) = []
+
+abbrev pub touched : Line → List VariableNumber
+touched n = told (n .answer) ++ written (n .change)
+
+-- "a variable to be written is busy", and by 02, 2026-01, one to be read too: after those tests, for every command alike, and "five
+-- groups made already" last
 abbrev pub lastTests : (busy full : Bool) → List (Test WireError)
 lastTests busy full = isBusy busy ∷ isFull full ∷ []
 
 abbrev pub testsOf : Line → (busy : ℕ) → List (Test WireError)
-testsOf n busy = n .tests ++ lastTests (some (marked busy) (written (n .change))) (n .full)
+testsOf n busy = n .tests ++ lastTests (some (marked busy) (touched n)) (n .full)
 
 abbrev pub done : Answer
 done = say 0xE0 []

@@ -2,17 +2,13 @@
 use mathlib.Core.Path.{_≡_}
 use mathlib.Core.List.{List}
 use Prim.Native.Nat.{ℕ}
-use native.Mathlib.Omega.{arith}
 use Rattle.bsmp.specs.Board.{Layout}
 use Rattle.bsmp.specs.Message.{line, testsOf, check}
-use Rattle.bsmp.specs.declared.WireError.{WireError}
 use Rattle.bsmp.specs.declared.Command.{Command}
 use Rattle.bsmp.specs.declared.Check.the-variants.{Pass, Fail}
 use Rattle.bsmp.proofs.Chain.{clear, first-case}
+use Rattle.bsmp.proofs.Accepted.{fail-no}
 use Rattle.parts.specs.Parts.{Passed}
-
-pub fail-no : (e : WireError) → Fail e ≡ Pass → ⊥
-fail-no e h = let z : _≡_ {A = ℕ} 0 1 = cc in omega arith
 
 pub check-clear : (l : Layout) (gs : List ℕ) (busy : ℕ) (p : List ℕ) (k : Command) → check l gs busy p k ≡ Pass → clear (testsOf (line l gs p k) busy)
 unfolding check
