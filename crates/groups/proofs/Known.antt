@@ -1,7 +1,7 @@
 -- The group that a payload names first, and what its set tells, as code has them at a return. Assumes nothing.
 use mathlib.Core.Path.{_≡_, refl, sym, ap, _∙_}
 use mathlib.Core.Bool.{Bool, true, false, not, cond}
-use mathlib.Core.List.{List}
+use mathlib.Core.List.{List, [], _++_, append-nil}
 use Prim.Native.Nat.{ℕ, _+_, _%_, _^_, _≤_, _<_}
 use native.Mathlib.Omega.{arith}
 use lib.Dec.{eqb, leb, ltb}
@@ -58,6 +58,10 @@ module _ (ns : List ℕ) (w : ℕ) (gs : List ℕ) (g : GroupNumber) (set : ℕ)
 
     pub busy-told : (busy : ℕ) (r b : Bool) → r ≡ some (marked busy) (membersBelow marks 64) → r ≡ b → some (marked busy) (members (variablesOnly ns w) gs g) ≡ b
     busy-told busy r b h t = rw (← marks-are) (sym h ∙ t)
+
+    -- the same of a command that reads the members and writes none
+    pub read-told : (busy : ℕ) (r b : Bool) → r ≡ some (marked busy) (membersBelow marks 64) → r ≡ b → some (marked busy) (members (variablesOnly ns w) gs g ++ []) ≡ b
+    read-told busy r b h t = ap (some (marked busy)) (append-nil (members (variablesOnly ns w) gs g)) ∙ busy-told busy r b h t
 
     module _ (x : GroupNumber) (e : x ≡ g) (r : Bool)
         (h : r ≡ cond (eqb (x .0) 1) false (cond (eqb (x .0) 2) true (every (marked w) (membersBelow marks 64)))) where

@@ -11,7 +11,7 @@ ghost use Prim.Native.Nat.{_+_, _≤_, _<_};
 ghost use lib.ListN.{length, drop};
 ghost use Rattle.bsmp.specs.Base.{some, cut, first};
 ghost use Rattle.bsmp.specs.Board.{sizeOf, marked, members, writableGroup, groupCount};
-ghost use Rattle.bsmp.specs.Message.{badFront, missing, size≠, groupAt, noGroup, listed, groupList, writesGroup, groupMembers, lastTests, check, edited, valuesOf};
+ghost use Rattle.bsmp.specs.Message.{groupAt, noGroup, listed, groupList, writesGroup, groupMembers, lastTests, check, edited, valuesOf};
 ghost use Rattle.bsmp.specs.declared.Check.the-variants.{Pass, Fail};
 ghost use Rattle.bsmp.specs.declared.Command.the-variants.{ShowGroup, ReadGroup, WriteGroup, MaskGroup, MakeGroup};
 ghost use Rattle.parts.specs.Parts.{variablesOnly, PayloadAt};
@@ -25,20 +25,6 @@ fn no_group(groups: &[u64], payload: &[u8]) -> bool
 {
     let n = parts::group_at(payload, 0).0;
     3 + groups.len() <= n
-}
-
-// The payload is the number of a group that exists, and nothing else.
-fn names(groups: &[u64], payload: &[u8]) -> Check
-    ensures { λ r. ⌜ r ≡ first (badFront (size≠ (now (payload .entry)) 1)
-        ∷ missing (noGroup (now (groups .entry)) (groupAt (now (payload .entry)) 0)) ∷ []) Fail Pass ⌝ }
-{
-    if payload.len() != 1 {
-        return Check::Fail(WireError::BadSize);
-    }
-    if no_group(groups, payload) {
-        return Check::Fail(WireError::BadId);
-    }
-    Check::Pass
 }
 
 // The set of the group named first.
@@ -83,7 +69,13 @@ pub fn check_show(sizes: &[u8], writable: u64, groups: &[u64], payload: &[u8], b
     requires { ⌜ length (now sizes) ≤ 64 ⌝ }
     ensures { λ r. ⌜ r ≡ check (variablesOnly (now (sizes .entry)) writable) (now (groups .entry)) busy (now (payload .entry)) ShowGroup ⌝ }
 {
-    names(groups, payload)
+    if payload.len() != 1 {
+        return Check::Fail(WireError::BadSize);
+    }
+    if no_group(groups, payload) {
+        return Check::Fail(WireError::BadId);
+    }
+    Check::Pass
 }
 
 // 12: a group to be read.
@@ -91,7 +83,17 @@ pub fn check_read(sizes: &[u8], writable: u64, groups: &[u64], payload: &[u8], b
     requires { ⌜ length (now sizes) ≤ 64 ⌝ }
     ensures { λ r. ⌜ r ≡ check (variablesOnly (now (sizes .entry)) writable) (now (groups .entry)) busy (now (payload .entry)) ReadGroup ⌝ }
 {
-    names(groups, payload)
+    if payload.len() != 1 {
+        return Check::Fail(WireError::BadSize);
+    }
+    if no_group(groups, payload) {
+        return Check::Fail(WireError::BadId);
+    }
+    let read = sets::declared(named_set(writable, groups, payload), sizes.len());
+    if sets::some_marked(read, busy) {
+        return Check::Fail(WireError::Busy);
+    }
+    Check::Pass
 }
 
 // 22: a group to be written.

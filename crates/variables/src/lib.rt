@@ -27,7 +27,8 @@ fn size_of(sizes: &[u8], i: VariableNumber) -> usize
     sizes[n] as usize
 }
 
-// The tests of a write that come after its front: variable i, named first, gets the bytes behind it; busy is whether it is.
+// The tests of a write that come after its front: variable i, named first, gets the bytes behind it; busy is whether a variable that the
+// command touches is.
 fn writes(
     sizes: &[u8],
     writable: u64,
@@ -65,6 +66,9 @@ pub fn check_read(sizes: &[u8], writable: u64, payload: &[u8], busy: u64) -> Che
     let i = parts::variable_at(payload, 0);
     if sizes.len() <= i.0 {
         return Check::Fail(WireError::BadId);
+    }
+    if sets::is_marked(busy, i) {
+        return Check::Fail(WireError::Busy);
     }
     Check::Pass
 }
@@ -121,7 +125,7 @@ pub fn check_write_read(sizes: &[u8], writable: u64, payload: &[u8], busy: u64) 
         payload,
         written,
         2,
-        sets::is_marked(busy, written),
+        sets::is_marked(busy, written) | sets::is_marked(busy, read),
     )
 }
 

@@ -2,8 +2,8 @@
 use borrow.Author.Tests.{eq-eqb, ne-eqb}
 use Rattle.bsmp.specs.Message.{line, check}
 use Rattle.bsmp.proofs.Chain.{first-next, first-stop}
-use Rattle.parts.proofs.Tested.{idle-end, not-on, not-off}
-use Rattle.variables.proofs.Named.{named-known, named-missing}
+use Rattle.parts.proofs.Tested.{free-end, not-on, not-off}
+use Rattle.variables.proofs.Named.{named-known, named-missing, named-busy}
 use borrow.Author.Needs.{needs}
 use Rattle.variables.proofs.check_read.Statement.{statement}
 use Rattle.variables.proofs.check_read.Tie as tie
@@ -14,4 +14,5 @@ check-read-spec =
     tie.close
     (tie.spec (λ c. search (first-stop, not-on, ne-eqb, needs) depth 5) (λ c κs. search needs)
     (λ c. search (first-next, first-stop, not-off, eq-eqb, named-missing, needs) depth 5)
-    (λ c. search (first-next, idle-end, not-off, eq-eqb, named-known, needs) depth 6))
+    (λ c κs. search needs) (λ c. search (first-next, first-stop, not-off, eq-eqb, named-known, named-busy, needs) depth 7)
+    (λ c. search (first-next, free-end, not-off, eq-eqb, named-known, named-busy, needs) depth 7))
