@@ -10,7 +10,7 @@ use native.Mathlib.Omega.{arith}
 use borrow.Author.Tests.{ne-eqb}
 use lib.ListN.{length, take, drop, length-take, length-append, length-map}
 use lib.Seq.{take-take, take-append-seam}
-use Rattle.bsmp.specs.Base.{join}
+use Rattle.bsmp.specs.Base.{join, every}
 use Rattle.bsmp.specs.Board.{Table, layout, State, usable, faults, variable, function}
 use Rattle.bsmp.specs.Packet.{Place, Result, refuse, storeTests, boardStore}
 use Rattle.bsmp.specs.Store.{Lent, held, lentOf, bytesIn, Left, leaves}
@@ -26,6 +26,7 @@ use Rattle.bsmp.proofs.Keeps.{result-keeps, store-keeps}
 use Rattle.bsmp.proofs.Store.{lent-held}
 use Rattle.bsmp.proofs.Stays.{stays, held-again}
 use Rattle.bsmp.proofs.Lent.{lent-before, lent-apart}
+use Rattle.bsmp.proofs.Busy.{hides, hidden-unread}
 use Rattle.records.specs.Lending.{groupsOf, lentValues}
 use Rattle.records.specs.declared.Groups.{Groups}
 use Rattle.records.proofs.Lending.{groups-lent}
@@ -218,3 +219,10 @@ module _ (own multicast : ℕ) (vs : List Variable) (cs fs : List ℕ) (g₁ g�
         let b₁ = ap (λ (y : Lent). bytesIn (layout T) (y .values) v) (i₁ .leaves-it ∙ ap₂ (λ t y. lentOf (leftBy t A (callOf r₁) y .holds)) (n₁ .2) (n₁ .1)) in
         let b₂ = ap (λ (y : Lent). bytesIn (layout T) (y .values) v) (i₂ .leaves-it ∙ ap₂ (λ t y. lentOf (leftBy t A (callOf r₂) y .holds)) (n₂ .2) (n₂ .1)) in
         (λ z. b₁ ∙ w .0 (sym a₁ ∙ z ∙ a₂) ∙ sym b₂, λ z. a₁ ∙ w .1 (sym b₁ ∙ z ∙ b₂) ∙ sym a₂)
+
+  -- half a value never travels: as long as each packet finds v busy, all that is seen is equal, whatever bytes v has
+  pub runs-busy : usable T (heldIn x₁) ≡ true → usable T (heldIn x₂) ≡ true → LentAlike (layout T) v (lentIn x₁) (lentIn x₂) → (rs₁ rs₂ : List Turn)
+      → Runs own multicast x₁ rs₁ → Runs own multicast x₂ rs₂ → map eventOf (callsIn rs₁) ≡ map eventOf (callsIn rs₂)
+      → every (hides v) (map eventOf (callsIn rs₁)) ≡ true → seenIn rs₁ ≡ seenIn rs₂
+  runs-busy u₁ u₂ h rs₁ rs₂ runs₁ runs₂ same busy =
+      runs-before u₁ u₂ h rs₁ rs₂ runs₁ runs₂ same (hidden-unread T A v (map eventOf (callsIn rs₁)) (heldIn x₁) busy) .0
