@@ -31,6 +31,7 @@ pub(super) struct Members {
 pub(super) struct Node<'a> {
     pub(super) board: &'a Board<'a>,
     pub(super) groups: &'a mut Groups,
+    /// Bit n for variable n; higher bits count for nothing, since no set has them.
     pub(super) busy: u64,
     pub(super) values: &'a mut [u8],
     pub(super) blocks: &'a mut [u8],
@@ -50,8 +51,8 @@ impl Node<'_> {
             0x06 => Ok(Answer::Group(self.group(one(payload)?)?.set)),
             0x08 => bare(payload, Answer::CurveList),
             0x0C => bare(payload, Answer::FunctionList),
-            0x10 => Ok(Answer::VariableValue(self.variable(one(payload)?)?.set)),
-            0x12 => Ok(Answer::GroupValues(self.group(one(payload)?)?.set)),
+            0x10 => self.read_variable(payload),
+            0x12 => self.read_group(payload),
             0x20 => self.write_variable(payload),
             0x22 => self.write_group(payload),
             0x24 => self.mask_variable(payload),
@@ -66,16 +67,26 @@ impl Node<'_> {
         }
     }
 
+    fn read_variable(&self, payload: &[u8]) -> Result<Answer, u8> {
+        let set = self.variable(one(payload)?)?.set;
+        self.none_busy(set)?;
+        Ok(Answer::VariableValue(set))
+    }
+
+    fn read_group(&self, payload: &[u8]) -> Result<Answer, u8> {
+        let set = self.group(one(payload)?)?.set;
+        self.none_busy(set)?;
+        Ok(Answer::GroupValues(set))
+    }
+
     fn write_variable(&mut self, payload: &[u8]) -> Result<Answer, u8> {
         let ([variable], value) = front(payload, PAYLOAD_SIZE)?;
-        self.write(self.variable(variable)?, value)?;
-        Ok(Answer::Done)
+        self.write(self.variable(variable)?, value)
     }
 
     fn write_group(&mut self, payload: &[u8]) -> Result<Answer, u8> {
         let ([group], values) = front(payload, PAYLOAD_SIZE)?;
-        self.write(self.group(group)?, values)?;
-        Ok(Answer::Done)
+        self.write(self.group(group)?, values)
     }
 
     fn mask_variable(&mut self, payload: &[u8]) -> Result<Answer, u8> {
@@ -92,7 +103,10 @@ impl Node<'_> {
         let ([written, read], value) = front(payload, PAYLOAD_SIZE)?;
         let written = self.variable(written)?;
         let read = self.variable(read)?;
-        self.write(written, value)?;
+        self.takes(written, value.len())?;
+        // The read one's mark counts before the write too, since an error changes no byte.
+        self.none_busy(written.set | read.set)?;
+        self.replace(written.set, value);
         Ok(Answer::VariableValue(read.set))
     }
 
@@ -203,29 +217,40 @@ impl Node<'_> {
         Ok((curve, start..start + curve.block_size))
     }
 
-    /// Whether these variables take so many bytes now.
-    fn allow(&self, members: Members, given: usize) -> Result<(), u8> {
+    /// Whether these variables take so many bytes.
+    fn takes(&self, members: Members, given: usize) -> Result<(), u8> {
         if given != self.board.layout.length(members.set) {
             return Err(PAYLOAD_SIZE);
         }
         if !members.writable {
             return Err(READ_ONLY);
         }
-        if self.busy & members.set != 0 {
+        Ok(())
+    }
+
+    /// Whether a set's variables may be read and written now. Reads go by busy marks too
+    /// (2026-01): the board may have renewed half of a busy variable's value only.
+    fn none_busy(&self, set: u64) -> Result<(), u8> {
+        if self.busy & set != 0 {
             return Err(BUSY);
         }
         Ok(())
     }
 
-    fn write(&mut self, members: Members, values: &[u8]) -> Result<(), u8> {
-        self.allow(members, values.len())?;
+    fn write(&mut self, members: Members, values: &[u8]) -> Result<Answer, u8> {
+        self.takes(members, values.len())?;
+        self.none_busy(members.set)?;
+        self.replace(members.set, values);
+        Ok(Answer::Done)
+    }
+
+    fn replace(&mut self, set: u64, values: &[u8]) {
         let mut rest = values;
-        for piece in self.board.layout.pieces(members.set) {
+        for piece in self.board.layout.pieces(set) {
             let (new, after) = rest.split_at(piece.len());
             self.values[piece].copy_from_slice(new);
             rest = after;
         }
-        Ok(())
     }
 
     fn mask(&mut self, members: Members, operation: u8, masks: &[u8]) -> Result<Answer, u8> {
@@ -236,7 +261,8 @@ impl Node<'_> {
             0x41 => keep,
             _ => return Err(NOT_SUPPORTED),
         };
-        self.allow(members, masks.len())?;
+        self.takes(members, masks.len())?;
+        self.none_busy(members.set)?;
         let mut rest = masks;
         for piece in self.board.layout.pieces(members.set) {
             let (mask, after) = rest.split_at(piece.len());

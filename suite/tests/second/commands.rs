@@ -1,4 +1,4 @@
-//! The commands: their codes, operations, lists, blocks and busy marks.
+//! The commands: their codes, operations, lists and blocks.
 use crate::bench::{variable, Bench};
 use suite::packets::{COMMANDS, OPERATIONS};
 
@@ -78,22 +78,6 @@ fn a_block_write_replaces_as_many_of_its_first_bytes_as_it_carries() {
     assert_eq!(bench.blocks, [1, 2, 3, 4, 7, 0, 0, 0]);
     assert_eq!(bench.error(0x41, &[0, 0, 0]), 0xE5, "1 to the block size");
     assert_eq!(bench.error(0x41, &[0, 0, 0, 1, 2, 3, 4, 5]), 0xE5);
-}
-
-#[test]
-fn busy_marks_stop_writes_only() {
-    let mut bench = Bench::a();
-    bench.busy = u64::MAX;
-    assert_eq!(bench.ask(0x10, &[1]), (0x11, vec![0x5A]));
-    assert_eq!(bench.ask(0x12, &[0]).0, 0x13);
-    assert_eq!(bench.ask(0x30, &[1]).0, 0xE0);
-    assert_eq!(bench.ask(0x41, &[0, 0, 0, 9]).0, 0xE0);
-    assert_eq!(bench.error(0x20, &[1, 0]), 0xE8);
-    assert_eq!(bench.error(0x24, &[1, 0x53, 0]), 0xE8);
-    assert_eq!(bench.error(0x28, &[1, 0, 0]), 0xE8);
-    bench.busy = !0b010;
-    assert_eq!(bench.ask(0x20, &[1, 9]).0, 0xE0, "higher bits, others");
-    assert_eq!(bench.ask(0x28, &[1, 2, 8]).0, 0x11, "the read one is busy");
 }
 
 #[test]

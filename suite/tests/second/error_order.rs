@@ -107,7 +107,37 @@ fn e5_then_e6_then_e8() {
     assert_eq!(bench.error(0x22, &[0, 1]), 0xE5);
     assert_eq!(bench.error(0x22, &[0, 1, 2, 3, 4, 5, 6, 7]), 0xE6);
     assert_eq!(bench.error(0x22, &[2, 1, 2, 3]), 0xE8);
-    assert_eq!(bench.error(0x28, &[0, 1, 9]), 0xE5, "the written one's");
-    assert_eq!(bench.error(0x28, &[0, 1, 1, 2, 3, 4]), 0xE6);
-    assert_eq!(bench.error(0x28, &[1, 0, 9]), 0xE8);
+}
+
+#[test]
+fn e8_keeps_its_place_in_the_order_now_for_reads_too() {
+    let mut bench = Bench::a();
+    bench.busy = u64::MAX;
+    for command in [0x10, 0x12] {
+        let (_, malformed) = bench.outcome(&summed(&[5, command, 0, 2, 0]));
+        assert_eq!(malformed, hex("00 E1 00 00 1F"));
+        assert_eq!(bench.error(command, &[]), 0xE5);
+        assert_eq!(bench.error(command, &[0, 0]), 0xE5);
+        assert_eq!(bench.error(command, &[3]), 0xE3);
+        assert_eq!(bench.error(command, &[2]), 0xE8);
+    }
+}
+
+#[test]
+fn twenty_eight_gets_e8_after_e5_of_the_front_e3_and_the_written_ones_e5_and_e6() {
+    // Of 1 and 2, the written one is busy, the read one, both.
+    for busy in [0b010, 0b100, 0b111, u64::MAX] {
+        let mut bench = Bench::a();
+        bench.busy = busy;
+        assert_eq!(bench.error(0x28, &[1]), 0xE5, "shorter than its front");
+        assert_eq!(bench.error(0x28, &[3, 2, 9]), 0xE3);
+        assert_eq!(bench.error(0x28, &[1, 3, 9]), 0xE3);
+        assert_eq!(bench.error(0x28, &[1, 2]), 0xE5, "of step 7");
+        assert_eq!(bench.error(0x28, &[1, 2, 9, 9]), 0xE5);
+        assert_eq!(bench.error(0x28, &[0, 2, 9]), 0xE5, "the written one's");
+        assert_eq!(bench.error(0x28, &[0, 2, 1, 2, 3, 4]), 0xE6);
+        assert_eq!(bench.error(0x28, &[0, 1, 1, 2, 3, 4]), 0xE6);
+        assert_eq!(bench.error(0x28, &[0, 0, 1, 2, 3, 4]), 0xE6);
+        assert_eq!(bench.error(0x28, &[1, 2, 9]), 0xE8);
+    }
 }

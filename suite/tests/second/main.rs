@@ -1,7 +1,8 @@
-//! The second node by itself, held against 01's sentences.
+//! The second node by itself, held against the sentences of 01 as 2026-01 amends it.
 mod anything;
 mod bench;
 mod bench_lines;
+mod busy_marks;
 mod commands;
 mod error_order;
 mod functions;
