@@ -202,6 +202,7 @@ static const struct call packets[] = {
     {"error E6", 0xE6, NULL, 0x41, ON(READ_ONLY_CURVE, 0, 1), .rest = BSMP_MOST_BLOCK_SIZE},
     {"error E7", 0xE7, NULL, 0x30, .rest = BSMP_MOST_VARIABLES},
     {"error E8", 0xE8, all_busy, 0x26, ON(GROUP, 'X'), .rest = BSMP_MOST_VALUE_BYTES},
+    {"error E8 to a read", 0xE8, all_busy, 0x12, ON(GROUP)},
     {"refusal 1", REFUSED + 1, six_groups, WHOLE_BLOCK},
     {"refusal 2", REFUSED + 2, no_address, WHOLE_BLOCK},
     {"refusal 3", REFUSED + 3, room_short, WHOLE_BLOCK},

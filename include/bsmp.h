@@ -36,7 +36,7 @@
 /* The version of this header with its library; .ci/checks/version holds the Rust face's and the suite's to it. And the version of
  * the protocol, as the node answers it to command 00. */
 #define BSMP_VERSION_MAJOR 0
-#define BSMP_VERSION_MINOR 2
+#define BSMP_VERSION_MINOR 3
 #define BSMP_VERSION_PATCH 0
 #define BSMP_VERSION (10000 * BSMP_VERSION_MAJOR + 100 * BSMP_VERSION_MINOR + BSMP_VERSION_PATCH) /* for #if */
 #define BSMP_PROTOCOL_MAJOR 2
@@ -120,7 +120,7 @@ enum bsmp_wire_code {
     BSMP_WIRE_BAD_SIZE = 0xE5,    /* payload of a wrong size */
     BSMP_WIRE_READ_ONLY = 0xE6,   /* the thing to be written is read-only */
     BSMP_WIRE_FULL = 0xE7,        /* five groups made already */
-    BSMP_WIRE_BUSY = 0xE8         /* a variable to be written is busy */
+    BSMP_WIRE_BUSY = 0xE8         /* a variable to be read or written is busy */
 };
 
 /* ---- What a board lends ---- */
@@ -206,7 +206,9 @@ struct bsmp_place {
  * Refusal 1 looks at all that both structs hold; in the last four, which take no state, at the variable records only. */
 
 /* One packet, all its bytes from the destination to the checksum.
- *   busy  bit n is set while variable n may not be written; higher bits count for nothing.
+ *   busy  bit n is set while messages may neither read nor write variable n, as long as the board renews it in several goes:
+ *         a read or write of it, or of a group with it, gets BSMP_WIRE_BUSY, so half a value is never sent. Higher bits count
+ *         for nothing. The calls below go by no mark.
  * Refusals, in this order: 1 to 6. They change nothing.
  * Outcomes:
  *   BSMP_REPLY    to be sent. Of the reply buffer, only the reply's own bytes were written. If it is a wire error, no value,

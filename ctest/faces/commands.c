@@ -56,9 +56,15 @@ static void try_busy(int way)
     start(&bench);
     bench.busy = UINT64_C(4);
     expect_packet(&bench, way, "05 22 00 04 02 01 02 03 =", "00 E8 00 00 =");
-    check_values("22 on a busy member", way, &bench, NULL);
-    expect_packet(&bench, way, "05 10 00 01 02 =", "00 11 00 02 34 12 =");
+    expect_packet(&bench, way, "05 28 00 03 01 02 66 =", "00 E8 00 00 =");
+    expect_packet(&bench, way, "F8 28 00 03 01 02 66 =", "silence");
+    expect_packet(&bench, way, "05 10 00 01 02 =", "00 E8 00 00 =");
+    expect_packet(&bench, way, "05 12 00 01 00 =", "00 E8 00 00 =");
+    check_values("22 on a busy member, and 28 that reads a busy variable", way, &bench, NULL);
+    expect_packet(&bench, way, "05 10 00 01 01 =", "00 11 00 01 5A =");
+    expect_packet(&bench, way, "05 12 00 01 01 =", "00 13 00 04 FF FF FF FD =");
     bench.busy = ~UINT64_C(7);
+    expect_packet(&bench, way, "05 12 00 01 00 =", "00 13 00 07 FF FF FF FD 5A 34 12 =");
     expect_packet(&bench, way, "05 22 00 04 02 01 02 03 =", "00 E0 00 00 =");
     end(&bench);
 }

@@ -8,7 +8,7 @@ use crate::{
 /// Carries out one packet and writes the reply, if one is due.
 ///
 /// `values` is the variables' store and `blocks` the curves' store, each of exactly the length that the records add up
-/// to; bit n of `busy` marks variable n as busy. Refusals 1 to 6.
+/// to; bit n of `busy` marks variable n as busy, so that it is neither read nor written. Refusals 1 to 6.
 #[allow(clippy::too_many_arguments)]
 pub fn packet<'packet, 'reply>(
     table: &Table,

@@ -77,7 +77,9 @@ pub struct Node {
     pub board: Board,
     /// Its state.
     pub state: State,
-    /// Busy marks, bit n for variable n. They stop writes only.
+    /// Busy marks, bit n for variable n. As long as one is set, messages neither read nor write that variable, alone or in
+    /// a group: they get E8. So a value that the board renews in several goes is never sent in halves. The board's own
+    /// calls go by no mark.
     pub busy: u64,
 }
 

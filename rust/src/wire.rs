@@ -32,5 +32,5 @@ pub const BAD_SIZE: u8 = 0xE5;
 pub const READ_ONLY: u8 = 0xE6;
 /// Five groups are made already.
 pub const FULL: u8 = 0xE7;
-/// A variable to be written is busy.
+/// A variable to be read or written is busy.
 pub const BUSY: u8 = 0xE8;

@@ -221,20 +221,40 @@ fn a_function_is_run_and_its_result_handed_in() {
 }
 
 #[test]
-fn busy_marks_stop_writes_only() {
+fn busy_marks_stop_reads_and_writes() {
     let mut node = node_a();
     node.busy = 0b010;
     let mut reply = [0; REPLY_ROOM];
     let busy = Outcome::Reply(&[0x00, 0xE8, 0x00, 0x00, 0x18]);
-    assert_eq!(
-        node.packet(&[0x05, 0x20, 0x00, 0x02, 0x01, 0x66, 0x72], &mut reply),
-        busy
-    );
-    let value = Outcome::Reply(&[0x00, 0x11, 0x00, 0x01, 0x5A, 0x94]);
-    assert_eq!(
-        node.packet(&[0x05, 0x10, 0x00, 0x01, 0x01, 0xE9], &mut reply),
-        value
-    );
+    for request in [
+        &[0x05, 0x20, 0x00, 0x02, 0x01, 0x66, 0x72][..],
+        &[0x05, 0x10, 0x00, 0x01, 0x01, 0xE9],
+        &[0x05, 0x12, 0x00, 0x01, 0x00, 0xE8],
+        &[0x05, 0x28, 0x00, 0x04, 0x02, 0x01, 0x66, 0x66, 0x00],
+    ] {
+        assert_eq!(node.packet(request, &mut reply), busy, "{:02X?}", request);
+    }
+    let other = Outcome::Reply(&[0x00, 0x11, 0x00, 0x02, 0x34, 0x12, 0xA7]);
+    let request = [0x05, 0x10, 0x00, 0x01, 0x02, 0xE8];
+    assert_eq!(node.packet(&request, &mut reply), other);
+}
+
+// The board itself goes by no mark: it stores and reads while it renews a value.
+#[test]
+fn half_a_value_is_never_sent() {
+    let mut node = node_a();
+    let mut reply = [0; REPLY_ROOM];
+    let request = [0x05, 0x10, 0x00, 0x01, 0x00, 0xEA];
+    let place = node.place(VariableNumber(0)).expect("it is declared");
+    node.busy = 0b001;
+    node.state.values[place.clone()][..2].copy_from_slice(&[0x00, 0x00]);
+    let busy = Outcome::Reply(&[0x00, 0xE8, 0x00, 0x00, 0x18]);
+    assert_eq!(node.packet(&request, &mut reply), busy);
+    node.state.values[place][2..].copy_from_slice(&[0x01, 0x2C]);
+    assert_eq!(node.value_signed(VariableNumber(0)), Ok(300));
+    node.busy = 0;
+    let new = Outcome::Reply(&[0x00, 0x11, 0x00, 0x04, 0x00, 0x00, 0x01, 0x2C, 0xBE]);
+    assert_eq!(node.packet(&request, &mut reply), new);
 }
 
 #[test]

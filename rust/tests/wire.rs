@@ -52,4 +52,5 @@ fn each_code_is_met() {
     assert_eq!(answered(&mut node, 0x30, &[WRITABLE]), wire::FULL);
     node.busy = 1 << WRITABLE;
     assert_eq!(answered(&mut node, 0x20, &[WRITABLE, 9]), wire::BUSY);
+    assert_eq!(answered(&mut node, 0x10, &[WRITABLE]), wire::BUSY);
 }

@@ -1,7 +1,7 @@
 //! Every way in which 01's table of the board can be broken, by name.
 use crate::boards::fill_up;
-use crate::lent::{all_declared, Lent};
-use cruachvel::{Curve, Kind, Variable, MOST_BLOCKS, MOST_VARIABLES};
+use crate::lent::{all_declared, values_length, Lent};
+use cruachvel::{Curve, Kind, Variable, MOST_BLOCKS, MOST_VALUE_BYTES, MOST_VARIABLES};
 
 type Change = Box<dyn Fn(&mut Lent) + Send + Sync>;
 
@@ -78,15 +78,26 @@ fn add_records(
     });
 }
 
+const ONE_BYTE: Variable = Variable::writable(1, Kind::Plain);
+
+// So many variables. Those that are new have one byte; where there is no room for them, the last of the others come down to one too.
+fn count_to(variables: &mut Vec<Variable>, count: usize) {
+    variables.resize(count, ONE_BYTE);
+    for place in (0..count).rev() {
+        if values_length(variables) > MOST_VALUE_BYTES {
+            variables[place] = ONE_BYTE;
+        }
+    }
+}
+
 fn of_variables(faults: &mut Vec<Fault>) {
     let no_groups = |lent: &mut Lent| lent.groups.count = 0;
     add_records(faults, "no variables", no_groups, |lent| {
         lent.variables.clear()
     });
-    let one_byte = Variable::writable(1, Kind::Plain);
-    let sixty_four = move |lent: &mut Lent| lent.variables.resize(MOST_VARIABLES, one_byte);
-    add_records(faults, "65 variables", sixty_four, move |lent| {
-        lent.variables.push(one_byte)
+    let sixty_four = |lent: &mut Lent| count_to(&mut lent.variables, MOST_VARIABLES);
+    add_records(faults, "65 variables", sixty_four, |lent| {
+        lent.variables.push(ONE_BYTE)
     });
     add_records(
         faults,
@@ -312,8 +323,7 @@ fn of_groups(faults: &mut Vec<Fault>) {
     }
     // With 63 variables the one after the last is the last that a set has a bit for.
     let sixty_three = move |lent: &mut Lent| {
-        let one_byte = Variable::writable(1, Kind::Plain);
-        lent.variables.resize(MOST_VARIABLES - 1, one_byte);
+        count_to(&mut lent.variables, MOST_VARIABLES - 1);
         five(lent);
     };
     let room_left = move |lent: &mut Lent| {

@@ -10,6 +10,7 @@ const PAIRS: usize = 600;
 const MOST_CALLS: usize = 120;
 
 /// One board, in two states that differ in the bytes of `variable` alone.
+#[derive(Clone)]
 struct Twins {
     left: Lent,
     right: Lent,
@@ -230,9 +231,36 @@ fn a_read_tells_a_single_bit_apart() {
         let own = twins.left.address.own;
         let request = packet(own, &message(0x10, &[twins.variable as u8]));
         assert!(
-            twins.packet(u64::MAX, &request),
+            twins.packet(!(1 << twins.variable), &request),
             "variable {}",
             twins.variable
         );
     }
+}
+
+// Whatever bytes a busy variable has, be they half of a value, no packet shows or changes them. The same packets without the mark do.
+#[test]
+fn half_a_value_never_travels() {
+    let mut random = Random::new(13);
+    let mut stopped = 0;
+    for _ in 0..PAIRS {
+        let mut twins = Twins::new(&mut random);
+        let place = twins.left.place(twins.variable);
+        let bytes = twins.left.values[place.clone()].to_vec();
+        for _ in 0..random.within(1, MOST_CALLS) {
+            let call = match random.below(4) {
+                0 => twins.draw_read(&mut random),
+                _ => twins.draw(&mut random),
+            };
+            if let Call::Packet { busy, request } = call {
+                let mark = 1 << twins.variable;
+                let shown = twins.clone().packet(busy & !mark, &request);
+                assert!(!twins.packet(busy | mark, &request), "{:02X?}", request);
+                assert_eq!(twins.left.values[place.clone()], bytes);
+                twins.differ_there_alone();
+                stopped += u32::from(shown);
+            }
+        }
+    }
+    assert!(stopped > 1000, "only {} reads were stopped", stopped);
 }

@@ -1,8 +1,8 @@
 //! cases write|check|table: makes docs/WHAT-IF.md from docs/what-if.cases, or checks that it is what would be made, or prints the cases as a
 //! table in C for ctest/cases.c.
 //!
-//! Each runs every case on the proved code first and says which lines are not so. If DOCUMENT_01 names the text of 01, the sentences
-//! that are quoted from it are looked up there.
+//! Each runs every case on the proved code first and says which lines are not so. If DOCUMENT_01 names the text of 01 with that of
+//! its change requests, the sentences that are quoted from them are looked up there.
 use std::fs;
 use std::path::Path;
 use std::process::exit;

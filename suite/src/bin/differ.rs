@@ -58,6 +58,7 @@ fn main() {
         }
         println!("{} calls agree", differ.tally.calls);
     }
+    println!("{}", differ.tally.busy_reads());
     let not_met = differ.tally.not_met();
     if wanted.all && !not_met.is_empty() {
         println!("never came up: {}", not_met.join("; "));

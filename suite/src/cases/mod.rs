@@ -41,8 +41,8 @@ pub fn read(path: &Path) -> Result<String, String> {
     fs::read_to_string(path).map_err(|error| format!("{}: {}", path.display(), error))
 }
 
-/// The page as the cases of a folder make it, and how many they are; else all that is wrong with them. The sentences of 01 are looked up
-/// in its text, if that is given.
+/// The page as the cases of a folder make it, and how many they are; else all that is wrong with them. The sentences of 01 and
+/// of its change requests are looked up in their text, if that is given.
 pub fn made(docs: &Path, document: Option<&Path>) -> Result<(String, usize), Vec<String>> {
     let (cases, _, ran) = held(docs)?;
     let wrong = match document {
@@ -118,7 +118,7 @@ pub fn run_all(cases: &[Case], boards: &Boards, node: Node) -> Result<Vec<Vec<Ra
     }
 }
 
-/// The sentences that the cases quote, and those that whatif does, as far as they don't stand in 01.
+/// The sentences that the cases quote, and those that whatif does, as far as they stand neither in 01 nor in its change requests.
 pub fn misquoted(cases: &[Case], document: &str) -> Vec<String> {
     let plain = |text: &str| text.split_whitespace().collect::<Vec<&str>>().join(" ");
     let document = plain(document);

@@ -11,8 +11,8 @@ use cruachvel::Refusal;
 
 const HEAD: &str = "# What does the node do if
 
-Questions about the node, each with calls, what the proved code makes of them, and the sentence of 01 that decides. Bytes are in hex;
-`00*9` stands for nine of them. Board A is that of 01; the other boards stand in `boards/`, and `BOARD-FILE.md` says how to read them.
+Questions about the node, each with calls, what the proved code makes of them, and the sentence of 01, or of a change request, that decides.
+Bytes are in hex; `00*9` stands for nine of them. Board A is that of 01; the other boards stand in `boards/`, and `BOARD-FILE.md` says how to read them.
 
 This page is made from `what-if.cases` by the program `cases` of the test suite. The tests run every case on the proved code and compare
 this page with what it would say today. `tools/whatif` explains any other packet; its commands below are run at the top of the repository.

@@ -13,6 +13,8 @@ pub struct Tally {
     /// How often a function was to be run: with an answer due, and without.
     runs: [u64; 2],
     silences: u64,
+    /// How often 28 was answered with E8: for the variable written, and for the one read alone.
+    busy_halves: [u64; 2],
     /// The drafts that were sent: by command, then by the first thing wrong in it, then by the second.
     drafts: Vec<u64>,
 }
@@ -33,6 +35,7 @@ impl Tally {
             refusals: [0; 13],
             runs: [0; 2],
             silences: 0,
+            busy_halves: [0; 2],
             drafts: vec![0; 256 * WAYS * WAYS],
         }
     }
@@ -44,8 +47,13 @@ impl Tally {
             Ending::Run { due, .. } => self.runs[usize::from(due)] += 1,
             Ending::Silence => self.silences += 1,
             Ending::Reply(_) => {
-                if let (Entry::Packet { .. }, [_, request, ..]) = (&call.entry, &call.given[..]) {
+                if let (Entry::Packet { busy, .. }, [_, request, rest @ ..]) =
+                    (&call.entry, &call.given[..])
+                {
                     self.answers[usize::from(*request) * 256 + usize::from(buffer[1])] += 1;
+                    if (*request, buffer[1]) == (0x28, 0xE8) {
+                        self.busy_halves[usize::from(busy >> rest[2] & 1 == 0)] += 1;
+                    }
                 }
             }
             _ => (),
@@ -66,6 +74,18 @@ impl Tally {
         self.answers[usize::from(request) * 256 + usize::from(answer)]
     }
 
+    /// How often reads met a busy variable.
+    pub fn busy_reads(&self) -> String {
+        let [written, read] = self.busy_halves;
+        format!(
+            "E8 answered to 10 {} times, to 12 {} times, to 28 {} times, {} of them for the variable read alone",
+            self.answered(0x10, 0xE8),
+            self.answered(0x12, 0xE8),
+            written + read,
+            read
+        )
+    }
+
     /// What never came up: a comparison says something only of what did.
     pub fn not_met(&self) -> Vec<String> {
         let mut missing: Vec<String> = (1..=12)
@@ -77,6 +97,11 @@ impl Tally {
         }
         if self.silences == 0 {
             missing.push("silence".to_string());
+        }
+        if self.busy_halves.contains(&0) {
+            missing.push(
+                "28 with E8 for the variable written, and for the one read alone".to_string(),
+            );
         }
         for command in COMMANDS {
             missing.extend(self.answers_not_met(command));

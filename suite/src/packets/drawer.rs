@@ -23,7 +23,7 @@ pub struct Drawer<'a> {
 impl Drawer<'_> {
     /// A message of this command that is wrong in these ways, and right otherwise, as far as the board has what it takes.
     pub fn draft(&mut self, command: u8, wrongs: &[Wrong]) -> Draft {
-        let (mut payload, written) = self.payload(command, wrongs);
+        let (mut payload, touched) = self.payload(command, wrongs);
         if wrongs.contains(&Wrong::Front) {
             self.spoil_front(command, &mut payload);
         }
@@ -40,7 +40,7 @@ impl Drawer<'_> {
             command,
             wrongs: wrongs.to_vec(),
             message,
-            busy: self.busy(written, wrongs),
+            busy: self.busy(touched, wrongs),
         }
     }
 

@@ -5,9 +5,14 @@ use crate::lent::members;
 use cruachvel::MOST_BLOCKS;
 
 impl Drawer<'_> {
+    // The payload, and the variables that the message reads or writes.
     pub(super) fn payload(&mut self, command: u8, wrongs: &[Wrong]) -> (Vec<u8>, u64) {
         match command {
-            0x06 | 0x10 | 0x12 => (vec![self.named(command, wrongs).0], 0),
+            0x06 => (vec![self.named(command, wrongs).0], 0),
+            0x10 | 0x12 => {
+                let (number, thing) = self.named(command, wrongs);
+                (vec![number], thing.set)
+            }
             0x20..=0x28 => self.write(command, wrongs),
             0x30 => (self.new_group(wrongs), 0),
             0x40 | 0x41 => (self.block(command, wrongs), 0),
@@ -20,22 +25,24 @@ impl Drawer<'_> {
         }
     }
 
-    // 20, 22, 24, 26, 28: the variables that are to be written come back too.
+    // 20, 22, 24, 26, 28
     fn write(&mut self, command: u8, wrongs: &[Wrong]) -> (Vec<u8>, u64) {
         let (mut number, thing) = self.named(command, wrongs);
         let mut front = vec![number];
+        let mut touched = thing.set;
         if matches!(command, 0x24 | 0x26) {
             front.push(self.operation(wrongs));
         }
         if command == 0x28 {
             let mut read = self.random.below(self.lent.variables.len()) as u8;
+            touched |= 1 << (read % 64);
             if wrongs.contains(&Wrong::Number) && self.random.once_in(2) {
                 std::mem::swap(&mut number, &mut read);
             }
             front = vec![number, read];
         }
         let length = self.length(thing.bytes, wrongs);
-        (self.with_data(&front, length), thing.set)
+        (self.with_data(&front, length), touched)
     }
 
     fn operation(&mut self, wrongs: &[Wrong]) -> u8 {
@@ -117,15 +124,15 @@ impl Drawer<'_> {
         payload
     }
 
-    pub(super) fn busy(&mut self, written: u64, wrongs: &[Wrong]) -> u64 {
-        let others = self.random.number() & !written;
+    pub(super) fn busy(&mut self, touched: u64, wrongs: &[Wrong]) -> u64 {
+        let others = self.random.number() & !touched;
         if !wrongs.contains(&Wrong::Busy) {
             return self.random.choose(&[0, others]);
         }
-        let written: Vec<usize> = members(written).collect();
-        if written.is_empty() {
+        let touched: Vec<usize> = members(touched).collect();
+        if touched.is_empty() {
             return u64::MAX;
         }
-        self.random.choose(&[0, others]) | 1 << self.random.choose(&written)
+        self.random.choose(&[0, others]) | 1 << self.random.choose(&touched)
     }
 }

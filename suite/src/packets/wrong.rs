@@ -43,7 +43,7 @@ impl Wrong {
             Wrong::Value => matches!(command, 0x30 | 0x40 | 0x41),
             Wrong::Length => matches!(command, 0x20..=0x28 | 0x41 | 0x50),
             Wrong::ReadOnly => matches!(command, 0x20..=0x28 | 0x41),
-            Wrong::Busy => matches!(command, 0x20..=0x28),
+            Wrong::Busy => matches!(command, 0x10 | 0x12 | 0x20..=0x28),
             Wrong::Full => command == 0x30,
         }
     }

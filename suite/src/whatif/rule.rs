@@ -89,9 +89,12 @@ impl Rule {
     }
 }
 
-/// All words of 01 that an explanation can quote.
+/// All words of 01 and of its change requests that an explanation can quote.
 pub fn quotes() -> Vec<String> {
-    let steps = STEPS.iter().map(|step| step.words.to_string());
+    let steps = STEPS.iter().flat_map(|step| {
+        let amended = step.amended.map(|(_, words)| words);
+        [step.words].into_iter().chain(amended).map(str::to_string)
+    });
     let rows = COMMANDS.iter().map(Command::row);
     let conditions = Refusal::ALL.iter().map(|refusal| {
         let (number, condition) = (refusal.number(), refusals::condition(*refusal));

@@ -6,12 +6,13 @@ use super::commands::{operation_name, Command, Field, Rest};
 use super::packet::Packet;
 use super::things::{busy_text, curve, function, group, missing, Setting};
 
-/// A step of 01's list of wire errors, in 01's words.
+/// A step of 01's list of wire errors, in 01's words, and in those of a change request that moved it.
 #[derive(Debug, PartialEq, Eq)]
 pub struct Step {
     pub number: u8,
     pub error: u8,
     pub words: &'static str,
+    pub amended: Option<(&'static str, &'static str)>,
 }
 
 const fn step(number: u8, error: u8, words: &'static str) -> Step {
@@ -19,8 +20,14 @@ const fn step(number: u8, error: u8, words: &'static str) -> Step {
         number,
         error,
         words,
+        amended: None,
     }
 }
+
+const BUSY_READS: (&str, &str) = (
+    "2026-01",
+    "E8 keeps its place in the order, now for reads too.",
+);
 
 #[rustfmt::skip]
 pub const STEPS: [Step; 10] = [
@@ -32,7 +39,7 @@ pub const STEPS: [Step; 10] = [
     step(6, 0xE4, "E4: block number not below the count; in 30, IDs not strictly ascending."),
     step(7, 0xE5, "E5 (not for 30): what follows the front is not of the declared length; in 41, not 1 to the block size of bytes."),
     step(8, 0xE6, "E6: the thing to be written is read-only."),
-    step(9, 0xE8, "E8: a variable to be written is busy."),
+    Step { amended: Some(BUSY_READS), ..step(9, 0xE8, "E8: a variable to be written is busy.") },
     step(10, 0xE7, "E7: five groups made already."),
 ];
 
@@ -44,9 +51,12 @@ pub fn step_of(error: u8, request: Packet, setting: &Setting) -> Option<(&'stati
 
 impl Step {
     pub fn text(&self) -> String {
+        let amended = self.amended.map_or(String::new(), |(request, words)| {
+            format!(", by {} \"{}\"", request, words)
+        });
         format!(
-            "step {} of the wire errors: \"{}\"",
-            self.number, self.words
+            "step {} of the wire errors: \"{}\"{}",
+            self.number, self.words, amended
         )
     }
 
@@ -238,12 +248,19 @@ fn read_only(command: &Command, request: Packet, setting: &Setting) -> Option<St
 }
 
 fn busy(command: &Command, request: Packet, setting: &Setting) -> Option<String> {
-    let target = Target::of(request, setting)?;
-    let busy = match command.rest {
-        Rest::Value | Rest::Mask => target.set & setting.busy,
+    let busy = touched(command, request, setting)? & setting.busy;
+    (busy != 0).then(|| busy_text(busy))
+}
+
+// The variables that a message reads or writes, as marks.
+fn touched(command: &Command, request: Packet, setting: &Setting) -> Option<u64> {
+    let first = match command.rest {
+        Rest::Value | Rest::Mask => Target::of(request, setting)?.set,
+        Rest::Nothing if matches!(command.code, 0x10 | 0x12) => Target::of(request, setting)?.set,
         _ => 0,
     };
-    (busy != 0).then(|| busy_text(busy))
+    let read = request.field(Field::VariableRead).unwrap_or(64);
+    Some(first | 1u64.checked_shl(read as u32).unwrap_or(0))
 }
 
 fn groups_full(command: &Command, setting: &Setting) -> Option<String> {

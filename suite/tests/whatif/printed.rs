@@ -61,7 +61,7 @@ fn a_multicast_error_is_told_though_nothing_is_answered() {
 outcome   silence
 rule      \"Packets to 248..255 are carried out if the multicast byte has that address, and never answered.\"
           to the own address the outcome would be: reply E8, resource busy
-          step 9 of the wire errors: \"E8: a variable to be written is busy.\"
+          step 9 of the wire errors: \"E8: a variable to be written is busy.\", by 2026-01 \"E8 keeps its place in the order, now for reads too.\"
           variable 2 is busy
 changed   nothing
 ";
