@@ -5,10 +5,11 @@ use crate::packets::{message, packet};
 use crate::{second, second_lent};
 use cruachvel::{Address, Curve, Groups, Kind, Outcome, Variable, MOST_PACKET};
 
-/// A packet on a board.
+/// A packet on a board, with its busy marks.
 pub struct Measured {
     pub name: &'static str,
     pub lent: Lent,
+    pub busy: u64,
     pub request: Vec<u8>,
 }
 
@@ -17,6 +18,7 @@ fn measured(name: &'static str, lent: &Lent, command: u8, payload: &[u8]) -> Mea
         name,
         request: packet(lent.address.own, &message(command, payload)),
         lent: lent.clone(),
+        busy: 0,
     }
 }
 
@@ -37,6 +39,7 @@ fn on_small_boards() -> Vec<Measured> {
         measured("version, board A", &a, 0x00, &[]),
         measured("read of a variable, board A", &a, 0x10, &[1]),
         measured("write of a variable, board A", &a, 0x20, &[1, 0x66]),
+        measured("write and read, board A", &a, 0x28, &[1, 2, 0x66]),
         measured("read of a group of 3", &a, 0x12, &[0]),
         measured(
             "write of a group of 3",
@@ -55,12 +58,21 @@ fn on_full_boards() -> Vec<Measured> {
     let mut half = full.clone();
     half.groups.sets[0] = u64::MAX / 3;
     let half_group = [&[3], &[0x66; 32 * 4][..]].concat();
+    let mut busy = measured("read of a group of 64, the last busy", &full, 0x12, &[0]);
+    busy.busy = 1 << 63;
     let mut unusable = measured("unusable board, in variable 63", &full, 0x10, &[63]);
     unusable.lent.variables[63].size = 0;
     vec![
         measured("read of variable 63", &full, 0x10, &[63]),
         measured("write of variable 63", &full, 0x20, &[63, 1, 2, 3, 4]),
+        measured(
+            "write and read of 62 and 63",
+            &full,
+            0x28,
+            &[62, 63, 1, 2, 3, 4],
+        ),
         measured("read of a group of 64", &full, 0x12, &[0]),
+        busy,
         measured("write of a group of 64", &full, 0x22, &group),
         measured("read of every other of 64", &half, 0x12, &[3]),
         measured("write of every other of 64", &half, 0x22, &half_group),
@@ -111,6 +123,7 @@ pub trait Side {
 /// The proved node.
 pub struct Proved {
     lent: Lent,
+    busy: u64,
     request: Vec<u8>,
     reply: Vec<u8>,
 }
@@ -119,6 +132,7 @@ impl Proved {
     pub fn new(measured: &Measured) -> Proved {
         Proved {
             lent: measured.lent.clone(),
+            busy: measured.busy,
             request: measured.request.clone(),
             reply: vec![0; MOST_PACKET],
         }
@@ -127,7 +141,7 @@ impl Proved {
 
 impl Side for Proved {
     fn packet(&mut self) -> &[u8] {
-        match self.lent.packet(0, &self.request, &mut self.reply) {
+        match self.lent.packet(self.busy, &self.request, &mut self.reply) {
             Outcome::Reply(reply) => reply,
             _ => &[],
         }
@@ -137,6 +151,7 @@ impl Side for Proved {
 /// The second node, with nothing between it and what is measured.
 pub struct Second {
     lent: Lent,
+    busy: u64,
     variables: Vec<second::Variable>,
     groups: second::Groups,
     request: Vec<u8>,
@@ -149,6 +164,7 @@ impl Second {
         Second {
             variables: second_lent::variables(&lent),
             groups: second_lent::groups(&lent),
+            busy: measured.busy,
             request: measured.request.clone(),
             reply: vec![0; MOST_PACKET],
             lent,
@@ -167,7 +183,7 @@ impl Side for Second {
             &table,
             &mut self.groups,
             second_lent::address(&self.lent),
-            0,
+            self.busy,
             &mut self.lent.values,
             &mut self.lent.blocks,
             &self.request,

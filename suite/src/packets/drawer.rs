@@ -56,6 +56,10 @@ impl Drawer<'_> {
             .collect();
         let count = self.random.choose(&[0, 0, 0, 0, 1, 1, 1, 2, 2, 2]);
         let mut wrongs: Vec<Wrong> = (0..count).map(|_| self.random.choose(&possible)).collect();
+        // So that reads, which can be wrong in few other ways, meet busy marks often.
+        if count < 2 && Wrong::Busy.concerns(command) && self.random.once_in(3) {
+            wrongs.push(Wrong::Busy);
+        }
         wrongs.sort();
         wrongs.dedup();
         self.draft(command, &wrongs)
