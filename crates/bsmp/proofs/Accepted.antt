@@ -35,14 +35,14 @@ module _ (l : Layout) (gs : List ℕ) (busy : ℕ) (m : List ℕ) where
     pub formed : clear (formTests m)
     pub tested : clear (asked l gs m .tests)
     pub free : some (marked busy) (touched (asked l gs m)) ≡ false
-    pub room : asked l gs m .full ≡ false
+    pub not-full : asked l gs m .full ≡ false
 
   clear-parts : clear (formTests m) → clear (testsOf row busy) → Accepted
   clear-parts c d =
       let o : clear (row .tests) × clear (lastTests (some (marked busy) (touched row)) (row .full)) =
       or-false _ _ (sym (some-append (λ (u : Test WireError). u .broken) (row .tests) _) ∙ d) in
       let b : (some (marked busy) (touched row) ≡ false) × ((row .full || false) ≡ false) = or-false _ _ (o .1) in
-      record { formed = c; tested = o .0; free = b .0; room = or-false (row .full) false (b .1) .0 }
+      record { formed = c; tested = o .0; free = b .0; not-full = or-false (row .full) false (b .1) .0 }
 
   pub accepted : (judge l gs busy m ≡ Pass) ↔ Accepted
   unfolding judge check
@@ -56,7 +56,7 @@ module _ (l : Layout) (gs : List ℕ) (busy : ℕ) (m : List ℕ) where
       back : Accepted → judge l gs busy m ≡ Pass
       back r =
           first-clear (formTests m) Fail _ (r .formed)
-          ∙ first-clear (testsOf row busy) Fail Pass (some-append (λ (u : Test WireError). u .broken) (row .tests) _ ∙ rw (r .tested, r .free, r .room))
+          ∙ first-clear (testsOf row busy) Fail Pass (some-append (λ (u : Test WireError). u .broken) (row .tests) _ ∙ rw (r .tested, r .free, r .not-full))
 
   module _ (h : judge l gs busy m ≡ Pass) (v : VariableNumber) where
     none-touched : (some (marked busy) (told (row .answer)) ≡ false) × (some (marked busy) (written (row .change)) ≡ false)

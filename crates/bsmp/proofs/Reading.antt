@@ -32,8 +32,8 @@ reads-same t a v (arrives busy room p) s₁ s₂ h =
 reads-same t a v (returns room f due r) s₁ s₂ h = refl
 reads-same t a v (stores i b) s₁ s₂ h = refl
 
--- 01's ways to read v with the payload p, "alone, in a group, or as the read half of write-and-read", each where 02's 2026-01 lets it:
--- the variable is not busy, nor "any busy member", nor "either variable"
+-- 01's ways to read v with the payload p, "alone, in a group, or as the read half of write-and-read", and what must not be busy then, by
+-- 02's 2026-01: the variable, "any busy member", "either variable"
 abbrev pub Way : Layout → List ℕ → (busy : ℕ) → VariableNumber → List ℕ → Command → Type 0
 Way l gs busy v p k =
     ((k ≡ ReadVariable) × (v ≡ variableAt p 0) × (marked busy v ≡ false))
@@ -147,7 +147,7 @@ module _ (t : Table) (a : Place) (v : VariableNumber) (busy room : ℕ) (p : Lis
       back r =
           let w = way-tells l (s .groups) busy v (drop 3 (message p)) (commandOf (byteAt (message p) 0)) (r .way) in
           let q : judge l (s .groups) busy (message p) ≡ Pass =
-          accepted l (s .groups) busy (message p) .1 (record { formed = r .formed; tested = r .tested; free = w .1; room = w .2 }) in
+          accepted l (s .groups) busy (message p) .1 (record { formed = r .formed; tested = r .tested; free = w .1; not-full = w .2 }) in
           first-clear (faults t s) (λ n. false) _ (usable-clear t s (r .board))
           ∙ first-clear (placeTests a room) (λ n. false) _ (r .place)
           ∙ first-clear (packetTests a p) (λ n. false) _ (r .opened)

@@ -171,7 +171,7 @@ fn not_ascending(request: Packet) -> Option<String> {
     Some(format!("{} comes after {}", pair[1], pair[0]))
 }
 
-// What a message is to write, or the function that it is to run.
+// What a message names first: what it is to read or write, or the function that it is to run.
 struct Target {
     name: String,
     bytes: usize,

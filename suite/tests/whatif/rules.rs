@@ -66,11 +66,12 @@ impl Met {
     }
 }
 
-// Steps 1 and 6 have two reasons each.
+// Steps 1, 6 and 9 have two reasons each.
 fn second_reason(step: &Step, request: Packet) -> bool {
     match step.number {
         1 => request.message().len() >= 3,
         6 => request.code() == Some(0x30),
+        9 => matches!(request.code(), Some(0x10 | 0x12)),
         _ => false,
     }
 }
@@ -125,7 +126,9 @@ fn every_outcome_has_the_rule_that_01_comes_to_first() {
     assert_eq!(met.refusals, BTreeSet::from([2, 4, 5, 6]));
     assert_eq!(met.rows.len(), 18, "{:02X?}", met.rows);
     let steps = (1..=10).map(|number| (number, false));
-    let expected: BTreeSet<(u8, bool)> = steps.chain([(1, true), (6, true)]).collect();
+    let expected: BTreeSet<(u8, bool)> = steps
+        .chain([(1, true), (6, true), (9, true)])
+        .collect();
     assert_eq!(met.steps, expected);
 }
 
