@@ -6,11 +6,14 @@ use mathlib.Core.Bool.{Bool, true, false, _||_, false≢true}
 use mathlib.Core.List.{List, [], _∷_}
 use Prim.Native.Nat.{ℕ}
 use native.Mathlib.Omega.{arith}
-use Rattle.bsmp.specs.Base.{some, Test}
+use lib.ListN.{drop}
+use Rattle.bsmp.specs.Base.{some, Test, byteAt}
+use Rattle.bsmp.specs.Codes.{commandOf}
 use Rattle.bsmp.specs.Board.{Layout, isSame, marked}
 use Rattle.bsmp.specs.Message.{Line, written, told, touched, lastTests, testsOf, formTests, check, judge, asked}
 use Rattle.bsmp.specs.declared.VariableNumber.{VariableNumber}
 use Rattle.bsmp.specs.declared.WireError.{WireError}
+use Rattle.bsmp.specs.declared.Check.{Check}
 use Rattle.bsmp.specs.declared.Check.the-variants.{Pass, Fail}
 use Rattle.bsmp.proofs.Bools.{or-false, or-true}
 use Rattle.bsmp.proofs.Lists.{some-append}
@@ -31,6 +34,13 @@ module _ (l : Layout) (gs : List ℕ) (busy : ℕ) (m : List ℕ) where
   abbrev row : Line
   row = asked l gs m
 
+  -- what holds of each error, and of a pass where none of the tests is broken, holds of the judgement
+  pub judge-case : (P : Check → Type 0) → ((e : WireError) → P (Fail e)) → (clear (formTests m) → clear (testsOf (asked l gs m) busy) → P Pass) → P (judge l gs busy m)
+  unfolding judge check
+  judge-case P f g =
+      first-case P (formTests m) Fail (check l gs busy (drop 3 m) (commandOf (byteAt m 0))) f
+      (λ c. first-case P (testsOf row busy) Fail Pass f (g c))
+
   pub record Accepted : Type 0 where
     pub formed : clear (formTests m)
     pub tested : clear (asked l gs m .tests)
@@ -49,9 +59,7 @@ module _ (l : Layout) (gs : List ℕ) (busy : ℕ) (m : List ℕ) where
   accepted = (there, back)
     where
       there : judge l gs busy m ≡ Pass → Accepted
-      there =
-          first-case (λ v. v ≡ Pass → Accepted) (formTests m) Fail _ (λ e h. absurd (fail-no e h))
-          (λ c. first-case (λ v. v ≡ Pass → Accepted) (testsOf row busy) Fail Pass (λ e h. absurd (fail-no e h)) (λ d h. clear-parts c d))
+      there = judge-case (λ v. v ≡ Pass → Accepted) (λ e h. absurd (fail-no e h)) (λ c d h. clear-parts c d)
 
       back : Accepted → judge l gs busy m ≡ Pass
       back r =

@@ -1,13 +1,13 @@
 -- Busy marks (02, 2026-01): while a variable is busy no packet shows anything of it or changes it, so half a value never travels. And
 -- what goes by no mark. Assumes nothing.
 use mathlib.Core.Path.{_≡_, refl, sym, ap, ap₂, _∙_}
-use mathlib.Core.Bool.{Bool, true, false, cond, _||_, true≢false}
-use mathlib.Core.List.{List, [], _∷_, _++_, map, append-nil}
+use mathlib.Core.Bool.{Bool, true, false, _||_, true≢false}
+use mathlib.Core.List.{List, [], _∷_, map, append-nil}
 use Prim.Native.Nat.{ℕ, _<_}
 use lib.Dec.{ltb}
 use lib.ListN.{length, drop}
 use borrow.Author.Tests.{ltb-true, not-false}
-use Rattle.bsmp.specs.Base.{some, every, Test, first, byteAt}
+use Rattle.bsmp.specs.Base.{some, every, first, byteAt}
 use Rattle.bsmp.specs.Codes.{commandOf}
 use Rattle.bsmp.specs.Board.{Table, Layout, layout, State, valueOf, isSame, marked, members, faults}
 use Rattle.bsmp.specs.Message.{Change, nothing, edit, fill, regroup, Line, written, touched, lastTests, formTests, line, check, judge, asked, groupAt, variableAt, noVariable}
@@ -15,14 +15,13 @@ use Rattle.bsmp.specs.Message.{after, stateAfter, carried, handled}
 use Rattle.bsmp.specs.Packet.{Place, Result, refuse, message, placeTests, packetTests, served, packet}
 use Rattle.bsmp.specs.Apart.{Alike, Event, arrives, returns, stores, happen, reads, endings, unread}
 use Rattle.bsmp.specs.declared.VariableNumber.{VariableNumber}
-use Rattle.bsmp.specs.declared.WireError.{WireError}
 use Rattle.bsmp.specs.declared.Command.{Command}
 use Rattle.bsmp.specs.declared.Command.the-variants.{Version, ListVariables, ListGroups, ShowGroup, ListCurves, ListFunctions, ReadVariable, ReadGroup, WriteVariable, WriteGroup}
 use Rattle.bsmp.specs.declared.Command.the-variants.{MaskVariable, MaskGroup, WriteRead, MakeGroup, RemoveGroups, ReadBlock, WriteBlock, RunFunction, Unknown}
 use Rattle.bsmp.specs.declared.Check.{Check}
 use Rattle.bsmp.specs.declared.Check.the-variants.{Pass, Fail}
 use Rattle.bsmp.proofs.Bools.{or-false, not-so, and-true}
-use Rattle.bsmp.proofs.Chain.{clear, clear-at, first-case}
+use Rattle.bsmp.proofs.Chain.{clear, clear-at, first-case, first-tail}
 use Rattle.bsmp.proofs.Accepted.{told-free, written-free}
 use Rattle.bsmp.proofs.Apart.{before}
 use Rattle.bsmp.proofs.Reading.{reads-tells}
@@ -39,7 +38,7 @@ module _ (t : Table) (a : Place) (v : VariableNumber) where
   hidden-one : (e : Event) (s : State) → hides v e ≡ true → reads t a v e s ≡ false
   hidden-one (arrives busy room p) s h =
       not-so _ (λ k. let r = reads-tells t a v busy room p s k in
-      true≢false (sym h ∙ told-free (layout t) (s .groups) busy (message p) (r .passes) v (r .tells)))
+      true≢false (sym h ∙ told-free (layout t) (s .groups) busy (message p) (r .passes) v (r .told)))
   hidden-one (returns room f due r) s h = refl
   hidden-one (stores i b) s h = refl
 
@@ -87,16 +86,6 @@ unfolding check line
 markless-same l gs busy busy′ p = refl
 
 -- "higher bits count for nothing": marks that agree on the declared variables judge alike
-first-tail : {B : Type 0} (ts us us′ : List (Test WireError)) (f : WireError → B) (x : B) → (clear ts → us ≡ us′) → first (ts ++ us) f x ≡ first (ts ++ us′) f x
-unfolding first
-first-tail [] us us′ f x g = ap (λ u. first u f x) (g refl)
-first-tail (t ∷ ts) us us′ f x g = by (t .broken) (λ e. first-tail ts us us′ f x (λ c. g (rw e c)))
-  where
-    by : (b : Bool) → (b ≡ false → first (ts ++ us) f x ≡ first (ts ++ us′) f x)
-        → cond b (f (t .error)) (first (ts ++ us) f x) ≡ cond b (f (t .error)) (first (ts ++ us′) f x)
-    by true r = refl
-    by false r = r refl
-
 module _ (l : Layout) where
   abbrev known : VariableNumber → Bool
   known i = ltb (i .0) (length (l .sizes))

@@ -102,38 +102,38 @@ e5 = reply (hex 5 0x00_E5_00_00_1B)
 abbrev e8 : Ending
 e8 = reply (hex 5 0x00_E8_00_00_18)
 
-pub record Marked : Type 0 where
+pub record BusyRow : Type 0 where
   pub busy : ℕ
   pub packet : List ℕ
   pub ends : Ending
 
-abbrev marks : ℕ → List ℕ → Ending → Marked
-marks b p e = record { busy = b; packet = p; ends = e }
+abbrev under : ℕ → List ℕ → Ending → BusyRow
+under b p e = record { busy = b; packet = p; ends = e }
 
-abbrev pub busyRows : List Marked
+abbrev pub busyRows : List BusyRow
 busyRows =
     -- 10 of variable 0, and of another while it is busy
-    marks 1 (hex 6 0x05_10_00_01_00_EA) e8
-    ∷ marks 1 (hex 6 0x05_10_00_01_01_E9) (reply (hex 6 0x00_11_00_01_5A_94))
+    under 1 (hex 6 0x05_10_00_01_00_EA) e8
+    ∷ under 1 (hex 6 0x05_10_00_01_01_E9) (reply (hex 6 0x00_11_00_01_5A_94))
     -- 12 of all variables with the last of them busy; of the read-only ones, which are not
-    ∷ marks 4 (hex 6 0x05_12_00_01_00_E8) e8
-    ∷ marks 6 (hex 6 0x05_12_00_01_01_E7) (reply (hex 9 0x00_13_00_04_FF_FF_FF_FD_EF))
+    ∷ under 4 (hex 6 0x05_12_00_01_00_E8) e8
+    ∷ under 6 (hex 6 0x05_12_00_01_01_E7) (reply (hex 9 0x00_13_00_04_FF_FF_FF_FD_EF))
     -- 28 that writes 1 and reads 2: either of them busy; then by multicast
-    ∷ marks 2 (hex 8 0x05_28_00_03_01_02_77_56) e8
-    ∷ marks 4 (hex 8 0x05_28_00_03_01_02_77_56) e8
-    ∷ marks 4 (hex 8 0xF8_28_00_03_01_02_77_63) silence
+    ∷ under 2 (hex 8 0x05_28_00_03_01_02_77_56) e8
+    ∷ under 4 (hex 8 0x05_28_00_03_01_02_77_56) e8
+    ∷ under 4 (hex 8 0xF8_28_00_03_01_02_77_63) silence
     -- E3 and E5 come before; in 28 the written one's E5 and E6 too, where only the read one is busy
-    ∷ marks 15 (hex 6 0x05_10_00_01_03_E7) (reply (hex 5 0x00_E3_00_00_1D))
-    ∷ marks 7 (hex 7 0x05_12_00_02_00_00_E7) e5
-    ∷ marks 4 (hex 9 0x05_28_00_04_01_02_77_77_DE) e5
-    ∷ marks 4 (hex 11 0x05_28_00_06_00_02_00_00_00_00_CB) (reply (hex 5 0x00_E6_00_00_1A))
+    ∷ under 15 (hex 6 0x05_10_00_01_03_E7) (reply (hex 5 0x00_E3_00_00_1D))
+    ∷ under 7 (hex 7 0x05_12_00_02_00_00_E7) e5
+    ∷ under 4 (hex 9 0x05_28_00_04_01_02_77_77_DE) e5
+    ∷ under 4 (hex 11 0x05_28_00_06_00_02_00_00_00_00_CB) (reply (hex 5 0x00_E6_00_00_1A))
     -- bits past the last variable count for nothing
-    ∷ marks (2 ^ 64 - 8) (hex 6 0x05_10_00_01_01_E9) (reply (hex 6 0x00_11_00_01_5A_94))
+    ∷ under (2 ^ 64 - 8) (hex 6 0x05_10_00_01_01_E9) (reply (hex 6 0x00_11_00_01_5A_94))
     ∷ []
 
 pub busy-reads :
-    map (λ (r : Marked). packet tableA placeA (r .busy) 4104 (r .packet) (stateA 0x5A)) busyRows
-    ≡ map (λ (r : Marked). record { ending = r .ends; state = stateA 0x5A }) busyRows
+    map (λ (r : BusyRow). packet tableA placeA (r .busy) 4104 (r .packet) (stateA 0x5A)) busyRows
+    ≡ map (λ (r : BusyRow). record { ending = r .ends; state = stateA 0x5A }) busyRows
 unfolding computes
 busy-reads = refl
 

@@ -16,7 +16,7 @@ use Rattle.bsmp.specs.declared.Command.{Command}
 use Rattle.bsmp.specs.declared.Command.the-variants.{Version, ListVariables, ListGroups, ShowGroup, ListCurves, ListFunctions, ReadVariable, ReadGroup, WriteVariable, WriteGroup}
 use Rattle.bsmp.specs.declared.Command.the-variants.{MaskVariable, MaskGroup, WriteRead, MakeGroup, RemoveGroups, ReadBlock, WriteBlock, RunFunction, Unknown}
 use Rattle.bsmp.proofs.Chain.{first-case}
-use Rattle.bsmp.proofs.Stays.{judge-case}
+use Rattle.bsmp.proofs.Accepted.{judge-case}
 
 drop-take : {A : Type 0} (a n : ℕ) (l : List A) → drop a (take n l) ≡ take (n - a) (drop a l)
 drop-take zero n l = let e : n - 0 ≡ n = omega arith in rw e
@@ -64,7 +64,7 @@ handled-runs : (l : Layout) (busy : ℕ) (m : List ℕ) (s : State) → Runs m (
 unfolding handled carried said
 handled-runs l busy m s =
     judge-case l (s .groups) busy m (λ v. Runs m (commandOf (byteAt m 0)) (said (asked l (s .groups) m) v (stateAfter (asked l (s .groups) m) v s))) (λ e. tt)
-    (λ c. line-runs l (s .groups) m (commandOf (byteAt m 0)) _)
+    (λ f c. line-runs l (s .groups) m (commandOf (byteAt m 0)) _)
 
 -- the input of a run is the part of the packet from place 5 on, up to the checksum
 abbrev At5 : List ℕ → Ending → Type 0

@@ -115,7 +115,7 @@ module _ (t : Table) (a : Place) (v : VariableNumber) (busy room : ℕ) (p : Lis
     pub opened : clear (packetTests a p)
     pub due : isOwn a (destination p) ≡ true
     pub passes : judge (layout t) (s .groups) busy (message p) ≡ Pass
-    pub tells : tells v (asked (layout t) (s .groups) (message p) .answer) ≡ true
+    pub told : tells v (asked (layout t) (s .groups) (message p) .answer) ≡ true
 
   pub reads-tells : reads t a v (arrives busy room p) s ≡ true → Tells
   reads-tells h =
@@ -124,7 +124,7 @@ module _ (t : Table) (a : Place) (v : VariableNumber) (busy room : ℕ) (p : Lis
       let y = first-true (packetTests a p) _ (x .1) in
       let z = and-true (isOwn a (destination p)) _ (y .1) in
       let w = read-passed v (asked l (s .groups) (message p)) _ (z .1) in
-      record { board = b .0; place = x .0; opened = y .0; due = z .0; passes = w .0; tells = w .1 }
+      record { board = b .0; place = x .0; opened = y .0; due = z .0; passes = w .0; told = w .1 }
 
   pub reads-it : (reads t a v (arrives busy room p) s ≡ true) ↔ ReadsIt t a v busy room p s
   reads-it = (there, back)
@@ -140,7 +140,7 @@ module _ (t : Table) (a : Place) (v : VariableNumber) (busy room : ℕ) (p : Lis
             due = r .due;
             formed = q .formed;
             tested = q .tested;
-            way = tells-way l (s .groups) busy v (drop 3 (message p)) (commandOf (byteAt (message p) 0)) (r .tells) (q .free);
+            way = tells-way l (s .groups) busy v (drop 3 (message p)) (commandOf (byteAt (message p) 0)) (r .told) (q .free);
           }
 
       back : ReadsIt t a v busy room p s → reads t a v (arrives busy room p) s ≡ true

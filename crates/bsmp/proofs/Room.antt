@@ -26,7 +26,8 @@ use Rattle.bsmp.proofs.Bools.{and-true, all-at}
 use Rattle.bsmp.proofs.Lists.{map-map, sum-append, every-at, length-upFrom, map-numbers, only-length, only-sum}
 use Rattle.bsmp.proofs.Chain.{clear, clear-at, broken-at, first-case}
 use Rattle.bsmp.proofs.Usable.{Usable, usable-parts, clear-usable}
-use Rattle.bsmp.proofs.Stays.{value-length, block-length, line-fits, after-usable, judge-case}
+use Rattle.bsmp.proofs.Accepted.{judge-case}
+use Rattle.bsmp.proofs.Stays.{value-length, block-length, line-fits, after-usable}
 
 -- groups: no more members than there are variables, and no more bytes than they have -----------------------------------------
 count-variables : (l : Layout) → length (variables l) ≡ length (l .sizes)
@@ -183,7 +184,7 @@ unfolding handled carried said stateAfter
 handled-well t busy m s due h =
     let l : Line = asked (layout t) (s .groups) m in
     judge-case (layout t) (s .groups) busy m (λ v. WellSent (ends due (carried l v s .says))) (λ e. ends-well due (errorCode e) [] (lit≤ tt))
-    (λ c. spoken-well t (after (l .change) s) due (l .answer)
+    (λ f c. spoken-well t (after (l .change) s) due (l .answer)
     (usable-parts t _ (after-usable t s (l .change) h (line-fits t s busy (drop 3 m) h (commandOf (byteAt m 0)) c)))
     (line-small t s busy (drop 3 m) h (commandOf (byteAt m 0)) c))
 

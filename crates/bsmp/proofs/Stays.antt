@@ -13,7 +13,7 @@ use Rattle.bsmp.specs.Base.{some, every, sum, join, cut, byteAt, wordAt,
 use Rattle.bsmp.specs.Codes.{commandOf}
 use Rattle.bsmp.specs.Board.{variable, curve, Table, Layout, layout, State, valueOf, blockOf, sizeOf, variables, isSame, groupBytes, setOf, blankCurve, curveOf, blockSizes, blockPlace}
 use Rattle.bsmp.specs.Board.{withValues, withBlocks, usable, usableGroups, faults}
-use Rattle.bsmp.specs.Message.{Change, nothing, edit, fill, regroup, writesVariable, writesGroup, Line, testsOf, line, check, formTests, judge, asked, changed, edited, filled, after, stateAfter, carried, handled}
+use Rattle.bsmp.specs.Message.{Change, nothing, edit, fill, regroup, writesVariable, writesGroup, Line, testsOf, line, asked, changed, edited, filled, after, stateAfter, carried, handled}
 use Rattle.bsmp.specs.Packet.{Place, refuse, placeTests, packetTests, served, packet, resultTests, functionResult, storeTests, boardStore, message}
 use Rattle.bsmp.specs.Store.{held, lentOf}
 use Rattle.bsmp.specs.Apart.{Event, arrives, returns, stores, happen, later}
@@ -25,10 +25,8 @@ use Rattle.bsmp.specs.declared.Operation.the-variants.{Replace}
 use Rattle.bsmp.specs.declared.Command.{Command}
 use Rattle.bsmp.specs.declared.Command.the-variants.{Version, ListVariables, ListGroups, ShowGroup, ListCurves, ListFunctions, ReadVariable, ReadGroup, WriteVariable, WriteGroup}
 use Rattle.bsmp.specs.declared.Command.the-variants.{MaskVariable, MaskGroup, WriteRead, MakeGroup, RemoveGroups, ReadBlock, WriteBlock, RunFunction, Unknown}
-use Rattle.bsmp.specs.declared.WireError.{WireError}
-use Rattle.bsmp.specs.declared.Check.{Check}
-use Rattle.bsmp.specs.declared.Check.the-variants.{Pass, Fail}
 use Rattle.bsmp.proofs.Bools.{or-false, and-true}
+use Rattle.bsmp.proofs.Accepted.{judge-case}
 use Rattle.bsmp.proofs.Lists.{map-set, map-map, every-last, length-upFrom}
 use Rattle.bsmp.proofs.Chain.{clear, clear-at, broken-at, first-case}
 use Rattle.bsmp.proofs.Store.{cut-join, lengths-cut}
@@ -168,19 +166,11 @@ module _ (t : Table) (s : State) (busy : ℕ) (p : List ℕ) (h : usable t s ≡
   line-fits Unknown c = tt
 
 -- messages, packets, results and stores --------------------------------------------------------------------------------------
--- where a message passes, all its command's tests do
-pub judge-case : (l : Layout) (gs : List ℕ) (busy : ℕ) (m : List ℕ) (P : Check → Type 0) → ((e : WireError) → P (Fail e))
-    → (clear (testsOf (asked l gs m) busy) → P Pass) → P (judge l gs busy m)
-unfolding judge check
-judge-case l gs busy m P f g =
-    first-case P (formTests m) Fail (check l gs busy (drop 3 m) (commandOf (byteAt m 0))) f
-    (λ c. first-case P (testsOf (asked l gs m) busy) Fail Pass f g)
-
 pub handled-usable : (t : Table) (busy : ℕ) (m : List ℕ) (s : State) → usable t s ≡ true → usable t (handled (layout t) busy m s .state) ≡ true
 unfolding handled carried stateAfter
 handled-usable t busy m s h =
     judge-case (layout t) (s .groups) busy m (λ v. usable t (carried (asked (layout t) (s .groups) m) v s .state) ≡ true) (λ e. h)
-    (λ c. after-usable t s _ h (line-fits t s busy (drop 3 m) h (commandOf (byteAt m 0)) c))
+    (λ f c. after-usable t s _ h (line-fits t s busy (drop 3 m) h (commandOf (byteAt m 0)) c))
 
 pub served-usable : (t : Table) (busy : ℕ) (due : Bool) (m : List ℕ) (s : State) → usable t s ≡ true → usable t (served (layout t) busy due m s .state) ≡ true
 unfolding served

@@ -17,6 +17,15 @@ fn is_busy(busy: u64, variable: u8) -> bool {
     busy >> variable & 1 == 1
 }
 
+// The request gets no error, and the same answer and state as with nothing busy.
+fn goes_by_no_mark(busy: u64, command: u8, payload: &[u8]) {
+    let (mut bench, mut free) = (marked(busy), marked(0));
+    let answer = bench.ask(command, payload);
+    assert_eq!(answer, free.ask(command, payload), "{:02X}", command);
+    assert!(answer.0 <= 0xE0, "no error");
+    assert_eq!(bench.state(), free.state());
+}
+
 #[test]
 fn writing_a_busy_variable_gets_e8() {
     let mut bench = marked(u64::MAX);
@@ -134,11 +143,7 @@ fn marks_past_the_last_variable_count_for_nothing() {
     ];
     for (command, payload) in requests {
         for busy in (3..64).map(|number| 1 << number).chain([!0b111]) {
-            let (mut bench, mut free) = (marked(busy), marked(0));
-            let answer = bench.ask(command, &payload);
-            assert_eq!(answer, free.ask(command, &payload), "{:02X}", command);
-            assert!(answer.0 <= 0xE0, "no error");
-            assert_eq!(bench.state(), free.state());
+            goes_by_no_mark(busy, command, &payload);
         }
     }
 }
@@ -173,11 +178,7 @@ fn lists_groups_and_curves_go_by_no_mark() {
         (0x41, vec![0, 0, 1, 9]),
     ];
     for (command, payload) in requests {
-        let (mut bench, mut free) = (marked(u64::MAX), marked(0));
-        let answer = bench.ask(command, &payload);
-        assert_eq!(answer, free.ask(command, &payload), "{:02X}", command);
-        assert!(answer.0 <= 0xE0, "no error");
-        assert_eq!(bench.state(), free.state());
+        goes_by_no_mark(u64::MAX, command, &payload);
     }
 }
 

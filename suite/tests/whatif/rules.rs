@@ -126,9 +126,7 @@ fn every_outcome_has_the_rule_that_01_comes_to_first() {
     assert_eq!(met.refusals, BTreeSet::from([2, 4, 5, 6]));
     assert_eq!(met.rows.len(), 18, "{:02X?}", met.rows);
     let steps = (1..=10).map(|number| (number, false));
-    let expected: BTreeSet<(u8, bool)> = steps
-        .chain([(1, true), (6, true), (9, true)])
-        .collect();
+    let expected: BTreeSet<(u8, bool)> = steps.chain([(1, true), (6, true), (9, true)]).collect();
     assert_eq!(met.steps, expected);
 }
 
