@@ -12,7 +12,7 @@ use Rattle.bsmp.specs.declared.Curve.{Curve}
 use Rattle.bsmp.specs.declared.Function.{Function}
 use Rattle.bsmp.specs.declared.Command.{Command}
 use Rattle.bsmp.specs.declared.Command.the-variants.{ShowGroup, ReadVariable, ReadGroup, WriteRead, ReadBlock, RunFunction}
-use Rattle.lists.proofs.Put.{put-nil}
+use Rattle.copies.proofs.Put.{put-nil}
 use Rattle.parts.specs.Parts.{layoutOf, Passed, PayloadAt}
 use Rattle.variables.proofs.Passes as variables
 use Rattle.groups.specs.Promises.{GroupKnown}

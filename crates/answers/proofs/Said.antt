@@ -4,8 +4,8 @@ use mathlib.Core.List.{List, [], _∷_}
 use Prim.Native.Nat.{ℕ, _+_, _≤_}
 use native.Mathlib.Omega.{arith}
 use lib.ListN.{length, set, length-set}
-use Rattle.lists.specs.Put.{put}
-use Rattle.lists.proofs.Put.{put-nil, put-set}
+use Rattle.copies.specs.Put.{put}
+use Rattle.copies.proofs.Put.{put-nil, put-set}
 use Rattle.parts.specs.Parts.{PayloadAt}
 
 pub version-told : (r : List ℕ) (at : ℕ) → at + 4099 ≤ length r → PayloadAt r at (2 ∷ 20 ∷ 0 ∷ []) 3 (set (set (set r at 2) (at + 1) 20) (at + 2) 0)

@@ -5,7 +5,7 @@ use mathlib.Core.List.{List, []}
 use Prim.Native.Nat.{ℕ, _≤_}
 use lib.ListN.{length}
 use Rattle.bsmp.specs.Message.{Said, replies, runs}
-use Rattle.lists.specs.Put.{put}
+use Rattle.copies.specs.Put.{put}
 use Rattle.answers.specs.declared.Spoken.{Spoken}
 use Rattle.answers.specs.declared.Spoken.the-variants.{Reply, Run, Nothing}
 

@@ -15,8 +15,8 @@ use Rattle.bsmp.specs.Message.{curveAt, filled}
 use Rattle.bsmp.specs.declared.Curve.{Curve}
 use Rattle.bsmp.specs.declared.CurveNumber.{CurveNumber}
 use Rattle.bsmp.proofs.Store.{curve-bytes}
-use Rattle.lists.specs.Put.{put, part}
-use Rattle.lists.proofs.Put.{put-back, put-put, mid-rest, length-part}
+use Rattle.copies.specs.Put.{put, part}
+use Rattle.copies.proofs.Put.{put-back, put-put, mid-rest, length-part}
 use Rattle.lists.proofs.Pieces.{value-part}
 use Rattle.lists.proofs.Blocks.{cut-fill}
 use Rattle.parts.specs.Parts.{PayloadAt}

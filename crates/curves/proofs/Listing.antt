@@ -11,8 +11,8 @@ use Rattle.bsmp.specs.Base.{join, bit, word}
 use Rattle.bsmp.specs.Board.{isWritable, blankCurve, usableCurves}
 use Rattle.bsmp.specs.Message.{curveRecord, curveList}
 use Rattle.bsmp.specs.declared.Curve.{Curve}
-use Rattle.lists.specs.Put.{put}
-use Rattle.lists.proofs.Put.{put-set, put-put, set-put}
+use Rattle.copies.specs.Put.{put}
+use Rattle.copies.proofs.Put.{put-set, put-put, set-put}
 use Rattle.parts.specs.Parts.{curvesOnly, PayloadAt}
 use Rattle.parts.proofs.Listing.{Listing, listing-start, listing-piece, listing-end}
 use Rattle.records.proofs.Sound.{curves-most}

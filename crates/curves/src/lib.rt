@@ -13,7 +13,7 @@ ghost use Rattle.bsmp.specs.Base.{bit, word, wordAt};
 ghost use Rattle.bsmp.specs.Board.{isWritable, usableCurves};
 ghost use Rattle.bsmp.specs.Message.{curveRecord, curveList, check, filled};
 ghost use Rattle.bsmp.specs.declared.Command.the-variants.{ReadBlock, WriteBlock};
-ghost use Rattle.lists.specs.Put.{put};
+ghost use Rattle.copies.specs.Put.{put};
 ghost use Rattle.parts.specs.Parts.{curvesOnly, PayloadAt};
 ghost use Rattle.records.specs.Lending.{curvesOf};
 ghost use Rattle.curves.specs.Fits.{SoundCurves, BlockNamed, BlockRead, BlockFits, blocksIn, placeOf, namedBlock, BlockAt};
@@ -111,7 +111,7 @@ pub fn change(curves: &[u32], blocks: &mut [u8], payload: &[u8])
         ⌜ blocksIn curves (now (blocks .exit)) ≡ set (blocksIn curves (now (blocks .entry))) (placeOf curves payload) (filled (drop 3 payload) block) ⌝ }
 {
     let at = Block::of(curves, payload).at;
-    lists::copy_block(&mut blocks[at..], &payload[3..]);
+    copies::copy_block(&mut blocks[at..], &payload[3..]);
 }
 
 // 41 as an answer: curve and block number as they came, and the block's bytes.
@@ -124,8 +124,8 @@ pub fn tell(curves: &[u32], blocks: &[u8], payload: &[u8], reply: &mut [u8], at:
         ⌜ PayloadAt (now (reply .entry)) at (payload ++ block) r (now (reply .exit)) ⌝ }
 {
     let block = Block::of(curves, payload);
-    lists::read_value(payload, 0, 3, reply, at);
-    lists::read_block(blocks, block.at, block.size, reply, at + 3);
+    copies::read_value(payload, 0, 3, reply, at);
+    copies::read_block(blocks, block.at, block.size, reply, at + 3);
     3 + block.size
 }
 

@@ -7,7 +7,7 @@ use native.Mathlib.Numerals.{add-one}
 use lib.Dec.{leb, ltb, leb·zero}
 use lib.ListN.{length, drop, getD, drop-of-length-le}
 use Rattle.bsmp.specs.Base.{some, ascending}
-use Rattle.lists.proofs.Put.{drop-one}
+use Rattle.copies.proofs.Put.{drop-one}
 use Rattle.groups.specs.Promises.{Looked}
 use Rattle.groups.specs.declared.Ids.{Ids}
 use Rattle.groups.proofs.Known.{leb-not}

@@ -18,7 +18,7 @@ use Rattle.bsmp.specs.declared.Check.the-variants.{Pass, Fail}
 use Rattle.bsmp.proofs.Bools.{or-false}
 use Rattle.bsmp.proofs.Chain.{first-next, first-stop, first-end, clear, clear-at, first-case}
 use Rattle.bsmp.proofs.Accepted.{fail-no}
-use Rattle.lists.proofs.Put.{mid-rest}
+use Rattle.copies.proofs.Put.{mid-rest}
 use Rattle.parts.specs.Parts.{Passed}
 use Rattle.parts.proofs.Tested.{not-on, not-off, or-left, or-right, or-none}
 use Rattle.judging.specs.Judging.{Judgement}

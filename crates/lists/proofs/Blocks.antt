@@ -7,8 +7,8 @@ use lib.ListN.{length, take, drop, set, getD, replicate, length-append, length-r
 use lib.Seq.{drop-drop, take-nil, take-append-le, take-append-add}
 use Rattle.bsmp.specs.Base.{sum, cut}
 use Rattle.lists.proofs.Sum.{total-append, total-within}
-use Rattle.lists.specs.Put.{put, part}
-use Rattle.lists.proofs.Put.{put-put, put-same, part-put-past, length-put, length-part}
+use Rattle.copies.specs.Put.{put, part}
+use Rattle.copies.proofs.Put.{put-put, put-same, part-put-past, length-put, length-part}
 use Rattle.lists.proofs.Pieces.{value-part, cut-put}
 
 drop-take : (a n : ℕ) (l : List ℕ) → drop a (take n l) ≡ take (n - a) (drop a l)

@@ -1,4 +1,3 @@
-pub mod Put
 pub mod Sum
 pub mod Mask
 pub mod Pieces

@@ -8,8 +8,8 @@ use lib.Seq.{drop-set-lt, take-nil}
 use native.Mathlib.Nat.{not-suc-le-zero, le-of-suc-le-suc, add-sub-cancel-left}
 use Rattle.bsmp.specs.Message.{operated, changed}
 use native.Mathlib.Omega.{arith}
-use Rattle.lists.specs.Put.{put, part}
-use Rattle.lists.proofs.Put.{put-nil, put-set, put-back, mid-rest, drop-one, length-part}
+use Rattle.copies.specs.Put.{put, part}
+use Rattle.copies.proofs.Put.{put-nil, put-set, put-back, mid-rest, drop-one, length-part}
 use Rattle.bsmp.specs.declared.Operation.{Operation}
 
 pub mask-nil : (op : Operation) (xs : List ℕ) → changed op xs [] ≡ []

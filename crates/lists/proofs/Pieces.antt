@@ -11,8 +11,8 @@ use Rattle.bsmp.proofs.Store.{piece}
 use Rattle.bsmp.specs.Message.{changed, edited}
 use Rattle.bsmp.specs.declared.Operation.{Operation}
 use Rattle.lists.proofs.Sum.{total-within}
-use Rattle.lists.specs.Put.{put, part}
-use Rattle.lists.proofs.Put.{put-behind}
+use Rattle.copies.specs.Put.{put, part}
+use Rattle.copies.proofs.Put.{put-behind}
 use Rattle.lists.proofs.Mask.{length-change}
 
 -- the bytes of piece i stand where those before it end

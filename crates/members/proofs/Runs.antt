@@ -15,8 +15,8 @@ use Rattle.bsmp.specs.Base.{sum, cut, has}
 use Rattle.bsmp.specs.Board.{variable, marked}
 use Rattle.bsmp.specs.Message.{changed, edited, valuesOf}
 use Rattle.bsmp.specs.declared.Operation.{Operation}
-use Rattle.lists.specs.Put.{put, part}
-use Rattle.lists.proofs.Put.{put-nil, put-put, length-put, length-part, part-put-past}
+use Rattle.copies.specs.Put.{put, part}
+use Rattle.copies.proofs.Put.{put-nil, put-put, length-put, length-part, part-put-past}
 use Rattle.lists.proofs.Sum.{total-split}
 use Rattle.lists.proofs.Mask.{length-change, mask-nil, take-changed, drop-changed}
 use Rattle.sets.specs.Members.{membersBelow, membersOf, sizeAt, setBytes}

@@ -14,8 +14,8 @@ use Rattle.bsmp.specs.Message.{changed, edited, valuesOf}
 use Rattle.bsmp.specs.declared.Operation.{Operation}
 use Rattle.bsmp.specs.declared.VariableNumber.{VariableNumber}
 use Rattle.bsmp.proofs.Lists.{length-upFrom, only-length}
-use Rattle.lists.specs.Put.{put, part}
-use Rattle.lists.proofs.Put.{put-nil, put-put, set-put, length-put, length-part}
+use Rattle.copies.specs.Put.{put, part}
+use Rattle.copies.proofs.Put.{put-nil, put-put, set-put, length-put, length-part}
 use Rattle.lists.proofs.Sum.{total-drop, total-split}
 use Rattle.lists.proofs.Pieces.{value-part, cut-change}
 use Rattle.sets.specs.Members.{membersBelow, membersOf, sizeAt, setBytes}

@@ -15,8 +15,8 @@ use Rattle.bsmp.specs.declared.Operation.{Operation}
 use Rattle.bsmp.specs.declared.VariableNumber.{VariableNumber}
 use Rattle.bsmp.proofs.Lists.{map-map, length-upFrom, map-numbers, only-sum}
 use Rattle.bsmp.proofs.Store.{join-cut, lengths-cut}
-use Rattle.lists.specs.Put.{put, part}
-use Rattle.lists.proofs.Put.{put-all, put-nil, put-set}
+use Rattle.copies.specs.Put.{put, part}
+use Rattle.copies.proofs.Put.{put-all, put-nil, put-set}
 use Rattle.lists.proofs.Mask.{length-mask, take-changed, drop-changed}
 use Rattle.sets.specs.Members.{membersBelow, membersOf, sizeAt, setBytes}
 use Rattle.sets.specs.Promises.{Sound, BytesAt}

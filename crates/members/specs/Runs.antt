@@ -7,7 +7,7 @@ use lib.ListN.{length}
 use Rattle.bsmp.specs.Board.{variable, marked}
 use Rattle.bsmp.specs.Message.{changed}
 use Rattle.bsmp.specs.declared.Operation.{Operation}
-use Rattle.lists.specs.Put.{put, part}
+use Rattle.copies.specs.Put.{put, part}
 use Rattle.sets.specs.Promises.{Turned}
 use Rattle.members.specs.declared.Run.{Run}
 

@@ -8,7 +8,7 @@ ghost use lib.Dec.{eqb};
 ghost use lib.ListN.{length, drop};
 ghost use Rattle.bsmp.specs.Base.{cut, upFrom};
 ghost use Rattle.bsmp.specs.Message.{changed, edited, valuesOf};
-ghost use Rattle.lists.specs.Put.{put, part};
+ghost use Rattle.copies.specs.Put.{put, part};
 ghost use Rattle.sets.specs.Members.{membersOf, membersBelow, sizeAt, setBytes};
 ghost use Rattle.sets.specs.Promises.{Sound, BytesAt};
 ghost use Rattle.members.specs.Runs.{StartOf, runRead, runChanged, RunOn};
@@ -65,7 +65,7 @@ fn read_turn(rest: u64, n: usize, values: &[u8], reply: &mut [u8], run: Run) -> 
             other: run.other,
         };
     }
-    lists::read_value(values, run.at, run.bytes, reply, run.other);
+    copies::read_value(values, run.at, run.bytes, reply, run.other);
     let from = run.at + run.bytes + n;
     let to = run.other + run.bytes;
     Run {
@@ -85,7 +85,7 @@ pub fn read_members(sizes: &[u8], set: u64, values: &[u8], reply: &mut [u8], at:
     // all variables, as of group 0: their values are the store as it stands
     if set == !0 {
         let all = values.len();
-        lists::read_value(values, 0, all, reply, at);
+        copies::read_value(values, 0, all, reply, at);
         return all;
     }
     let members = sets::declared(set, sizes.len());
@@ -101,7 +101,7 @@ pub fn read_members(sizes: &[u8], set: u64, values: &[u8], reply: &mut [u8], at:
         i += 1;
         rest = rest / 2;
     }
-    lists::read_value(values, run.at, run.bytes, reply, run.other);
+    copies::read_value(values, run.at, run.bytes, reply, run.other);
     run.other + run.bytes - at
 }
 

@@ -13,8 +13,8 @@ use Rattle.bsmp.specs.declared.FunctionNumber.{FunctionNumber}
 use Rattle.bsmp.specs.declared.Refusal.{Refusal}
 use Rattle.bsmp.specs.declared.Outcome.{Outcome}
 use Rattle.bsmp.specs.declared.Outcome.the-variants as O
-use Rattle.lists.specs.Put.{put, part}
-use Rattle.lists.proofs.Put.{put-nil}
+use Rattle.copies.specs.Put.{put, part}
+use Rattle.copies.proofs.Put.{put-nil}
 use Rattle.wire.specs.declared.Opened.the-variants.{Refused}
 use Rattle.wire.proofs.Frame.{frame-shown, frame-outcome}
 use Rattle.changes.specs.declared.Regroup.{Regroup}

@@ -12,8 +12,8 @@ use Rattle.bsmp.specs.Board.{Table, layout, isType, sizesOf, usableVariable, us
 use Rattle.bsmp.specs.Store.{held}
 use Rattle.bsmp.specs.declared.Variable.{Variable}
 use Rattle.bsmp.proofs.Bools.{and-true}
-use Rattle.lists.specs.Put.{put}
-use Rattle.lists.proofs.Put.{set-put}
+use Rattle.copies.specs.Put.{put}
+use Rattle.copies.proofs.Put.{set-put}
 use Rattle.records.specs.Lending.{recordsBy, recordsOf, groupsBy, groupsOf, newGroupOf, tableOf, lent}
 use Rattle.records.specs.declared.Records.{Records}
 use Rattle.records.specs.declared.Groups.{Groups}

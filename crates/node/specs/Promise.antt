@@ -11,7 +11,7 @@ use Rattle.bsmp.specs.Packet.{Place, Result, frame, packet}
 use Rattle.bsmp.specs.Store.{Lent, held, outcomeOf, shown}
 use Rattle.bsmp.specs.declared.Outcome.{Outcome}
 use Rattle.bsmp.specs.declared.Outcome.the-variants as O
-use Rattle.lists.specs.Put.{put, part}
+use Rattle.copies.specs.Put.{put, part}
 use Rattle.wire.specs.declared.Opened.{Opened}
 use Rattle.wire.specs.declared.Opened.the-variants.{Message, Refused}
 use Rattle.records.specs.Lending.{groupsBy, groupsOf, tableOf, lent}

@@ -13,8 +13,8 @@ use lib.Seq.{getD-drop, drop-length}
 use mir.Syntax.{w8, w64}
 use mir.Val.{Fits}
 use Rattle.bsmp.specs.Number.{little, littleBytes, turned}
-use Rattle.lists.specs.Put.{put}
-use Rattle.lists.proofs.Put.{drop-one, put-nil, put-set, put-all}
+use Rattle.copies.specs.Put.{put}
+use Rattle.copies.proofs.Put.{drop-one, put-nil, put-set, put-all}
 use Rattle.numbers.specs.Size.{placeOf}
 use Rattle.numbers.proofs.Order.{length-turned, turned-turned, turned-read, turned-write}
 

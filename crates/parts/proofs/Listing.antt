@@ -5,8 +5,8 @@ use Prim.Native.Nat.{ℕ, _+_, _≤_, _<_}
 use native.Mathlib.Nat.{add-zero}
 use native.Mathlib.Omega.{arith}
 use lib.ListN.{length, drop, set, getD}
-use Rattle.lists.specs.Put.{put}
-use Rattle.lists.proofs.Put.{put-put, put-done, set-put, length-put, drop-one}
+use Rattle.copies.specs.Put.{put}
+use Rattle.copies.proofs.Put.{put-put, put-done, set-put, length-put, drop-one}
 use Rattle.parts.specs.Parts.{PayloadAt}
 
 -- the answer v, of n bytes, goes into r₀ from `at` on

@@ -9,7 +9,7 @@ use Rattle.bsmp.specs.declared.Curve.{Curve}
 use Rattle.bsmp.specs.declared.Function.{Function}
 use Rattle.bsmp.specs.declared.Command.{Command}
 use Rattle.bsmp.specs.declared.Check.the-variants.{Pass}
-use Rattle.lists.specs.Put.{put}
+use Rattle.copies.specs.Put.{put}
 
 -- a layout, column by column
 abbrev pub layoutOf : (sizes : List ℕ) → (writable : ℕ) → List Curve → List Function → Layout

@@ -19,8 +19,8 @@ use Rattle.bsmp.specs.declared.Refusal.{Refusal}
 use Rattle.bsmp.specs.declared.Outcome.{Outcome}
 use Rattle.bsmp.specs.declared.Outcome.the-variants as O
 use Rattle.bsmp.proofs.Chain.{broken-at}
-use Rattle.lists.specs.Put.{put, part}
-use Rattle.lists.proofs.Put.{set-put, put-back, length-put}
+use Rattle.copies.specs.Put.{put, part}
+use Rattle.copies.proofs.Put.{set-put, put-back, length-put}
 use Rattle.wire.proofs.Frame.{frame-shown, frame-outcome}
 use Rattle.records.proofs.Sound.{function-bytes}
 use Rattle.results.specs.Results.{ranOf, ranPayload, resultLeft, resultLeftOf}

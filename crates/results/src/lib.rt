@@ -102,7 +102,7 @@ fn answer(ran: Ran, output: &[u8], reply: &mut [u8]) -> usize
 {
     match ran {
         Ran::Gave => {
-            lists::copy_into(&mut reply[4..], output);
+            copies::copy_into(&mut reply[4..], output);
             wire::finish(reply, Ran::OUTPUT, output.len())
         }
         Ran::Failed(error) => {

@@ -14,7 +14,7 @@ use Rattle.bsmp.specs.declared.WireError.{WireError}
 use Rattle.bsmp.specs.declared.Command.{Command}
 use Rattle.bsmp.specs.declared.Check.{Check}
 use Rattle.bsmp.specs.declared.Check.the-variants.{Pass, Fail}
-use Rattle.lists.proofs.Put.{mid-rest}
+use Rattle.copies.proofs.Put.{mid-rest}
 use Rattle.parts.specs.Parts.{Passed}
 use Rattle.records.specs.Lending.{lent}
 use Rattle.variables.proofs.One.{sound-kept}

@@ -17,7 +17,7 @@ use Rattle.bsmp.specs.declared.Command.{Command}
 use Rattle.bsmp.specs.declared.Command.the-variants.{RunFunction}
 use Rattle.bsmp.specs.declared.Check.{Check}
 use Rattle.bsmp.specs.declared.Check.the-variants.{Pass, Fail}
-use Rattle.lists.proofs.Put.{put-nil, mid-rest}
+use Rattle.copies.proofs.Put.{put-nil, mid-rest}
 use Rattle.judging.specs.Judging.{Judgement}
 use Rattle.judging.proofs.Judging.{judged-passed}
 use Rattle.answers.specs.Answers.{spokenOf, Spoke}

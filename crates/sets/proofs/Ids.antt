@@ -14,7 +14,7 @@ use Rattle.bsmp.specs.Base.{has, marksOf, upFrom, some}
 use Rattle.bsmp.specs.Board.{Layout, variable, isSame, setOf}
 use Rattle.bsmp.specs.declared.VariableNumber.{VariableNumber}
 use Rattle.bsmp.proofs.Bools.{or-false}
-use Rattle.lists.proofs.Put.{drop-one}
+use Rattle.copies.proofs.Put.{drop-one}
 use Rattle.sets.specs.Promises.{Below, Named}
 use Rattle.sets.proofs.Marks.{has-none, has-or, has-pow, marks-has}
 

@@ -7,7 +7,7 @@ use lib.ListN.{length, getD}
 use Rattle.bsmp.specs.Base.{sum}
 use Rattle.bsmp.specs.Board.{Layout, variable, marked, members, setOf}
 use Rattle.bsmp.specs.declared.GroupNumber.{GroupNumber}
-use Rattle.lists.specs.Put.{put}
+use Rattle.copies.specs.Put.{put}
 use Rattle.sets.specs.Members.{membersBelow, membersOf, groupSet}
 
 -- few variables, and a store of exactly the length that their sizes add up to

@@ -8,8 +8,8 @@ use Rattle.bsmp.specs.Base.{sum, cut, byteAt}
 use Rattle.bsmp.specs.Message.{variableAt, changed, edited, valuesOf}
 use Rattle.bsmp.specs.declared.Operation.{Operation}
 use Rattle.bsmp.specs.declared.VariableNumber.{VariableNumber}
-use Rattle.lists.specs.Put.{put, part}
-use Rattle.lists.proofs.Put.{length-part}
+use Rattle.copies.specs.Put.{put, part}
+use Rattle.copies.proofs.Put.{length-part}
 use Rattle.lists.proofs.Pieces.{value-part, edit-one}
 use Rattle.sets.specs.Members.{sizeAt}
 use Rattle.sets.specs.Promises.{Sound}

@@ -192,7 +192,7 @@ pub fn tell(
     let i = parts::variable_at(payload, j);
     let from = lists::offset(sizes, i.0);
     let n = size_of(sizes, i);
-    lists::read_value(values, from, n, reply, at);
+    copies::read_value(values, from, n, reply, at);
     n
 }
 

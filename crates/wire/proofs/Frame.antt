@@ -10,8 +10,8 @@ use Rattle.bsmp.specs.Base.{sum}
 use Rattle.bsmp.specs.Packet.{frame, checksum, reply}
 use Rattle.bsmp.specs.Store.{shown, outcomeOf}
 use Rattle.bsmp.specs.declared.Outcome.the-variants.{Reply}
-use Rattle.lists.specs.Put.{put, part}
-use Rattle.lists.proofs.Put.{put-nil, put-set, put-closed, put-cover, part-put, length-part}
+use Rattle.copies.specs.Put.{put, part}
+use Rattle.copies.proofs.Put.{put-nil, put-set, put-closed, put-cover, part-put, length-part}
 
 pub length-frame : (code : ℕ) (v : List ℕ) → length (frame code v) ≡ length v + 5
 unfolding frame

@@ -4,7 +4,7 @@ ghost use mathlib.Core.Path.{_≡_};
 ghost use Prim.Native.Nat.{_+_, _≤_};
 ghost use lib.ListN.{length};
 ghost use Rattle.bsmp.specs.Packet.{usablePlace, inMulticast, frame};
-ghost use Rattle.lists.specs.Put.{put, part};
+ghost use Rattle.copies.specs.Put.{put, part};
 ghost use Rattle.wire.specs.Opening.{placed, openedOf};
 
 // What a packet yields: a message, which stands from place 1 up to the last byte, or its refusal.

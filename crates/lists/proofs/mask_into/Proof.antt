@@ -3,7 +3,7 @@ use mathlib.Core.Path.{_≡_, sym, _∙_}
 use Prim.Native.Nat.{_-_, _≤_}
 use native.Mathlib.Omega.{arith}
 use lib.ListN.{length, drop, length-set}
-use Rattle.lists.specs.Put.{put}
+use Rattle.copies.specs.Put.{put}
 use Rattle.lists.proofs.Mask.{mask-turn, mask-done}
 use Rattle.bsmp.specs.Message.{changed}
 use borrow.Author.Needs.{needs}

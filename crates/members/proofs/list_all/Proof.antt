@@ -4,7 +4,7 @@ use Prim.Native.Nat.{_+_, _-_, _≤_}
 use native.Mathlib.Omega.{arith}
 use lib.ListN.{length, length-set}
 use Rattle.bsmp.specs.Base.{upFrom}
-use Rattle.lists.specs.Put.{put}
+use Rattle.copies.specs.Put.{put}
 use Rattle.members.proofs.Whole.{all-start, all-next, all-done}
 use borrow.Author.Needs.{needs}
 use Rattle.members.proofs.list_all.Statement.{statement}

@@ -5,7 +5,7 @@ use native.Mathlib.Omega.{arith}
 use lib.ListN.{length, length-set}
 use borrow.Author.Needs.{needs}
 use Rattle.bsmp.specs.Number.{littleBytes, turned}
-use Rattle.lists.specs.Put.{put}
+use Rattle.copies.specs.Put.{put}
 use Rattle.numbers.proofs.Order.{place-within}
 use Rattle.numbers.proofs.Little.{write-start, write-turn, write-end}
 use Rattle.numbers.proofs.write_bytes.Statement.{statement}

@@ -1,14 +1,14 @@
--- `read_value` meets its contract. Assumes nothing.
-use Rattle.lists.proofs.Put.{put-part}
+-- `read_block` meets its contract. Assumes nothing.
+use Rattle.copies.proofs.Put.{put-part}
 use borrow.Author.Needs.{needs}
-use Rattle.lists.proofs.read_value.Statement.{statement}
-use Rattle.lists.proofs.read_value.Tie as tie
+use Rattle.copies.proofs.read_block.Statement.{statement}
+use Rattle.copies.proofs.read_block.Tie as tie
 
 returns : tie.Need-returns
 returns c = search (put-part, needs)
 
-pub read-value-spec : {M : Type 1} → statement M
-read-value-spec =
+pub read-block-spec : {M : Type 1} → statement M
+read-block-spec =
     tie.close
     (tie.spec
     (λ c. search needs) (λ c. search needs) (λ c. search needs) (λ c. search needs) (λ c. search needs) (λ c. search needs) (λ c. search needs)

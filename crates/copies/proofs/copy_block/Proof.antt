@@ -2,11 +2,11 @@
 use mathlib.Core.Path.{_≡_}
 use Prim.Native.Nat.{_-_, _≤_}
 use lib.ListN.{length, drop}
-use Rattle.lists.proofs.Put.{put-piece, put-last}
-use Rattle.lists.specs.Put.{put}
+use Rattle.copies.proofs.Put.{put-piece, put-last}
+use Rattle.copies.specs.Put.{put}
 use borrow.Author.Needs.{needs}
-use Rattle.lists.proofs.copy_block.Statement.{statement}
-use Rattle.lists.proofs.copy_block.Tie as tie
+use Rattle.copies.proofs.copy_block.Statement.{statement}
+use Rattle.copies.proofs.copy_block.Tie as tie
 
 abbrev Inv-loop : tie.InvT-loop
 Inv-loop dst₀ src i₀ dst i = (i ≤ length src) × (length dst ≡ length dst₀) × (put dst i (drop i src) ≡ put dst₀ 0 src)

@@ -1,8 +1,8 @@
 -- `copy_piece` meets its contract. Assumes nothing.
-use Rattle.lists.proofs.Put.{put-by-way}
+use Rattle.copies.proofs.Put.{put-by-way}
 use borrow.Author.Needs.{needs}
-use Rattle.lists.proofs.copy_piece.Statement.{statement}
-use Rattle.lists.proofs.copy_piece.Tie as tie
+use Rattle.copies.proofs.copy_piece.Statement.{statement}
+use Rattle.copies.proofs.copy_piece.Tie as tie
 
 pub copy-piece-spec : {M : Type 1} → statement M
 copy-piece-spec =
