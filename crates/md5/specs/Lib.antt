@@ -1,0 +1,2 @@
+pub mod Md5
+pub mod Suite
