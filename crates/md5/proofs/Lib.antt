@@ -1,1 +1,3 @@
+pub mod Words
+pub mod Digest
 pub mod Suite
