@@ -1,3 +1,4 @@
 pub mod Words
 pub mod Digest
 pub mod Suite
+pub mod Turns

@@ -1,7 +1,7 @@
 -- Words: they stay below 2 ^ 32, a word is its four bytes, and what a rotation is. Assumes nothing.
 use mathlib.Core.Path.{_≡_, sym, ap, ap₂, _∙_}
 use Prim.Native.Nat.{ℕ, _+_, _-_, _*_, _/_, _%_, _^_, _≤_, _<_}
-use native.Mathlib.Nat.{add-zero, add-comm, mod-lt, mul-mod-left, lt-of-le-of-lt, div-add-mod, div-div-eq-div-mul}
+use native.Mathlib.Nat.{add-zero, mod-lt, mul-mod-left, lt-of-le-of-lt, div-add-mod, div-div-eq-div-mul}
 use native.Mathlib.Omega.{arith}
 use lib.Arith.{sub-sub-self}
 use lib.Bits.{bitOr, or-lt, or-shifted}

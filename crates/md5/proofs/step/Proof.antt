@@ -1,0 +1,13 @@
+-- `step` meets its contract. Assumes nothing.
+use borrow.Author.Needs.{needs}
+use Rattle.md5.proofs.step.Statement.{statement}
+use Rattle.md5.proofs.step.Tie as tie
+
+returns : tie.Need-returns
+returns c = cc
+
+pub step-spec : {M : Type 1} → statement M
+step-spec =
+    tie.close
+    (tie.spec
+    (λ c κs. search needs) (λ c κs. search needs) (λ c κs. search needs) (λ c κs. search needs) (λ c κs. search needs) returns)
