@@ -1,10 +1,10 @@
 -- What every digest has: 16 bytes, from words that stay below 2 ^ 32, of a padded message of whole chunks. Assumes nothing.
-use mathlib.Core.Path.{_≡_, refl, _∙_}
+use mathlib.Core.Path.{_≡_, refl}
 use mathlib.Core.List.{List, [], _∷_, _++_}
-use Prim.Native.Nat.{ℕ, zero, suc, _+_, _*_, _/_, _%_, _^_, _≤_, _<_}
+use Prim.Native.Nat.{ℕ, zero, suc, _+_, _%_, _^_, _≤_, _<_}
 use native.Mathlib.Omega.{arith}
-use lib.ListN.{length, take, drop, getD, replicate, length-append, length-replicate}
-use Rattle.md5.specs.Md5.{word, bytes, padding, lengthBytes, padded, initial, added, operated, chunks, hashed, output, digest}
+use lib.ListN.{length, take, drop, getD, length-append, length-replicate}
+use Rattle.md5.specs.Md5.{bytes, padding, lengthBytes, padded, initial, added, operated, chunks, hashed, output, digest}
 use Rattle.md5.specs.declared.State.{State}
 use Rattle.md5.proofs.Words.{sum-below}
 

@@ -1,4 +1,5 @@
 -- `plus` meets its contract. Assumes nothing.
+use mathlib.Core.Path.{refl}
 use Rattle.md5.specs.Md5.{_⊞_}
 use borrow.Author.Needs.{needs}
 use Rattle.md5.proofs.plus.Statement.{statement}
@@ -6,10 +7,10 @@ use Rattle.md5.proofs.plus.Tie as tie
 
 returns : tie.Need-returns
 unfolding _⊞_
-returns c = search needs
+returns c = refl
 
 pub plus-spec : {M : Type 1} → statement M
 plus-spec =
     tie.close
     (tie.spec
-    (λ c κs. search needs) returns)
+    (λ c. search needs) (λ c. search needs) returns)

@@ -1,6 +1,6 @@
 -- `round_one` meets its contract. Assumes nothing.
 use mathlib.Core.Path.{_≡_, refl}
-use Prim.Native.Nat.{suc, _+_, _-_, _*_, _/_, _%_, _≤_}
+use Prim.Native.Nat.{suc, _-_, _/_, _%_, _≤_}
 use denote.Ref.{now}
 use Rattle.md5.specs.Md5.{F, operations, round1}
 use Rattle.md5.proofs.Turns.{Pattern, turns, turn, turned}
