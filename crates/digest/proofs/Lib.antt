@@ -1,0 +1,4 @@
+pub mod Chunks
+pub mod Feeding
+pub mod Closing
+pub mod Pieces
