@@ -1,11 +1,12 @@
 -- The padding and the length as the last two pieces: then it is the digest. Assumes nothing.
-use mathlib.Core.Path.{_≡_, refl, sym, ap, ap₂, _∙_}
+use mathlib.Core.Path.{_≡_, sym, ap, ap₂, _∙_}
 use mathlib.Core.List.{List, [], _∷_, _++_}
-use Prim.Native.Nat.{ℕ, zero, suc, _+_, _-_, _*_, _/_, _%_, _^_, _≤_}
+use Prim.Native.Nat.{ℕ, suc, _+_, _-_, _*_, _/_, _%_, _^_}
 use native.Mathlib.Nat.{add-zero, zero-add}
 use native.Mathlib.Omega.{arith}
 use borrow.Rule.Slice.PartMut.{midOf}
-use lib.ListN.{length, take, getD, replicate}
+use lib.ListN.{length, take, getD, replicate, length-replicate, replicate-append-replicate}
+use lib.Seq.{take-at}
 use Rattle.md5.specs.Md5.{bytes, padding, lengthBytes, padded, output, digest}
 use Rattle.md5.specs.declared.State.{State}
 use Rattle.digest.specs.Stream.{Stream, held, begun, fed, closed}
@@ -13,17 +14,16 @@ use Rattle.digest.specs.declared.Progress.{Progress}
 use Rattle.digest.proofs.Chunks.{fed-fed}
 
 -- the padding, as the code cuts it from 64 bytes
-take-replicate : (k n x : ℕ) → k ≤ n → take k (replicate n x) ≡ replicate k x
-take-replicate zero n x h = refl
-take-replicate (suc k) zero x h = absurd (omega (arith, h))
-take-replicate (suc k) (suc n) x h = ap (λ (l : List ℕ). x ∷ l) (take-replicate k n x (omega (arith, h)))
+first-of : (k n x : ℕ) → take k (replicate (k + n) x) ≡ replicate k x
+first-of k n x = ap (take k) (sym (replicate-append-replicate k n x)) ∙ take-at (replicate k x) (replicate n x) k (length-replicate k x)
 
 pub padding-part : (n : ℕ) → midOf 0 (1 + (119 - n % 64) % 64 - 0) (0x80 ∷ replicate 63 0) ≡ padding n
 unfolding padding
 padding-part n =
     let k : ℕ = (119 - n % 64) % 64 in
     let e : 1 + (119 - n % 64) % 64 - 0 ≡ suc k = omega arith in
-    ap (λ (x : ℕ). take x (0x80 ∷ replicate 63 0)) e ∙ ap (λ (l : List ℕ). 0x80 ∷ l) (take-replicate k 63 0 (omega arith))
+    let z : 63 ≡ k + (63 - k) = omega arith in
+    ap (λ (x : ℕ). take x (0x80 ∷ replicate 63 0)) e ∙ ap (λ (l : List ℕ). 0x80 ∷ l) (ap (λ (x : ℕ). take k (replicate {A = ℕ} x 0)) z ∙ first-of k (63 - k) 0)
 
 -- the length in bits, as the code works it out with no number over 2 ^ 64
 high-word : (n : ℕ) → n / 0x20000000 ≡ 8 * n / 2 ^ 32
