@@ -6,14 +6,15 @@ use mathlib.Core.List.{List, [], _∷_, _++_, map}
 use Prim.Native.Nat.{ℕ, suc, _+_}
 use native.Mathlib.Omega.{arith}
 use native.Mathlib.Decide.{ℕ-discrete}
-use lib.ListN.{length, drop, set, getD, length-append}
+use lib.ListN.{length, take, drop, set, getD, length-append}
 use borrow.Author.Tests.{eqb-true, eqb-false}
-use Rattle.bsmp.specs.Base.{some, first, Test, join}
-use Rattle.bsmp.specs.Board.{variable, Table, Layout, layout, State, valueOf, isSame, usable, faults}
-use Rattle.bsmp.specs.Message.{Change, nothing, edit, fill, regroup, Answer, say, tell, show, call, Line, changed, edited, filled, after, valuesOf, replies, spoken, said, stateAfter, carried, handled, asked, judge}
+use Rattle.bsmp.specs.Base.{some, first, Test, join, upFrom}
+use Rattle.md5.specs.Md5.{digest}
+use Rattle.bsmp.specs.Board.{variable, curve, Table, Layout, layout, State, valueOf, curveOf, blockPlace, fresh, isSame, usable, faults}
+use Rattle.bsmp.specs.Message.{Change, nothing, edit, fill, renew, regroup, Answer, say, tell, show, attest, call, Line, changed, edited, filled, after, valuesOf, replies, spoken, said, stateAfter, carried, handled, asked, judge}
 use Rattle.bsmp.specs.Packet.{Place, Ending, reply, silence, Result, frame, ends, ended, served, refuse, isOwn, destination, message}
-use Rattle.bsmp.specs.Packet.{placeTests, packetTests, packet, Ran, ranSays, resultTests, functionResult, storeTests, boardStore}
-use Rattle.bsmp.specs.Apart.{Alike, Event, arrives, returns, stores, happen, tells, readBy, readsIn, reads, answerOf, Apart, endings, later, unread}
+use Rattle.bsmp.specs.Packet.{placeTests, packetTests, packet, Ran, ranSays, resultTests, functionResult, storeTests, boardStore, freshBoard}
+use Rattle.bsmp.specs.Apart.{Alike, Event, arrives, returns, stores, freshens, happen, tells, readBy, readsIn, reads, answerOf, Apart, endings, later, unread}
 use Rattle.bsmp.specs.declared.VariableNumber.{VariableNumber}
 use Rattle.bsmp.specs.declared.FunctionNumber.{FunctionNumber}
 use Rattle.bsmp.specs.declared.Operation.{Operation}
@@ -63,13 +64,31 @@ after-alike v nothing s₁ s₂ h = h
 after-alike v (edit op is ps) s₁ s₂ h =
     let n : Near v (edited op is ps (s₁ .values)) (edited op is ps (s₂ .values)) =
     edited-near v op is ps _ _ record { others = h .others; lengths = h .lengths } in
-    record { others = n .others; lengths = n .lengths; blocks = h .blocks; groups = h .groups }
+    record { others = n .others; lengths = n .lengths; blocks = h .blocks; sums = h .sums; groups = h .groups }
 after-alike v (fill k d) s₁ s₂ h =
-    record { others = h .others; lengths = h .lengths; blocks = ap (λ l. set l k (filled d (getD l k []))) (h .blocks); groups = h .groups }
-after-alike v (regroup gs) s₁ s₂ h = record { others = h .others; lengths = h .lengths; blocks = h .blocks; groups = refl }
+    record { others = h .others; lengths = h .lengths; blocks = ap (λ l. set l k (filled d (getD l k []))) (h .blocks); sums = h .sums; groups = h .groups }
+after-alike v (renew c k n) s₁ s₂ h = record {
+  others = h .others;
+  lengths = h .lengths;
+  blocks = h .blocks;
+  sums = ap₂ (λ ds bs. set ds (c .0) (digest (join (take n (drop k bs))))) (h .sums) (h .blocks);
+  groups = h .groups;
+}
+after-alike v (regroup gs) s₁ s₂ h = record { others = h .others; lengths = h .lengths; blocks = h .blocks; sums = h .sums; groups = refl }
+
+-- the sums of a fresh board go by its blocks alone
+fresh-alike : (v : VariableNumber) (l : Layout) (s₁ s₂ : State) → Alike v s₁ s₂ → Alike v (fresh l s₁) (fresh l s₂)
+unfolding fresh
+fresh-alike v l s₁ s₂ h = record {
+  others = h .others;
+  lengths = h .lengths;
+  blocks = h .blocks;
+  sums = ap (λ bs. map (λ c. digest (join (take (curveOf l (curve c) .blocks) (drop (blockPlace l (curve c) 0) bs)))) (upFrom 0 (length (l .curves)))) (h .blocks);
+  groups = h .groups;
+}
 
 pub usable-alike : (t : Table) (v : VariableNumber) (s₁ s₂ : State) → Alike v s₁ s₂ → usable t s₁ ≡ usable t s₂
-usable-alike t v s₁ s₂ h = usable-by t s₁ s₂ (h .lengths) (ap (map length) (h .blocks)) (h .groups)
+usable-alike t v s₁ s₂ h = usable-by t s₁ s₂ (h .lengths) (ap (map length) (h .blocks)) (ap (map length) (h .sums)) (h .groups)
 
 pub faults-alike : (t : Table) (v : VariableNumber) (s₁ s₂ : State) → Alike v s₁ s₂ → faults t s₁ ≡ faults t s₂
 faults-alike t v s₁ s₂ h = faults-by t s₁ s₂ (usable-alike t v s₁ s₂ h)
@@ -111,6 +130,7 @@ module _ (v : VariableNumber) (s₁ s₂ : State) (h : Alike v s₁ s₂) where
   spoken-same true (tell c is) e = ap (λ p. reply (frame c p)) (unread-values is e)
   spoken-same false (tell c is) e = refl
   spoken-same due (show c front k) e = ap (λ l. ends due (replies c (front ++ getD l k []))) (h .blocks)
+  spoken-same due (attest c n) e = ap (λ l. ends due (replies c (getD l (n .0) []))) (h .sums)
   spoken-same due (call f i) e = refl
 
   spoken-told : (due : Bool) (an : Answer) → (due && tells v an) ≡ true
@@ -123,6 +143,7 @@ module _ (v : VariableNumber) (s₁ s₂ : State) (h : Alike v s₁ s₂) where
   )
   spoken-told false (tell c is) e = absurd (false≢true e)
   spoken-told due (show c front k) e = absurd (and-false due e)
+  spoken-told due (attest c n) e = absurd (and-false due e)
   spoken-told due (call f i) e = absurd (and-false due e)
 
 -- packets, results and stores ------------------------------------------------------------------------------------------------
@@ -198,12 +219,18 @@ store-apart t v i b s₁ s₂ h =
     (first-quiet v (storeTests (layout t) i b) s₁ s₂ _ _ h
     (quiet v silence _ _ (after-alike v (edit Replace (i ∷ []) (b ∷ [])) s₁ s₂ h))))
 
+fresh-apart : (t : Table) (v : VariableNumber) (s₁ s₂ : State) → Alike v s₁ s₂ → Apart v (freshBoard t s₁) (freshBoard t s₂) false
+unfolding freshBoard
+fresh-apart t v s₁ s₂ h =
+    rw (← faults-alike t v s₁ s₂ h) (first-quiet v (faults t s₁) s₁ s₂ _ _ h (quiet v silence _ _ (fresh-alike v (layout t) s₁ s₂ h)))
+
 -- one event
 pub step : (t : Table) (a : Place) (v : VariableNumber) (e : Event) (s₁ s₂ : State) → Alike v s₁ s₂
     → Apart v (happen t a e s₁) (happen t a e s₂) (reads t a v e s₁)
 step t a v (arrives busy room p) s₁ s₂ h = packet-apart t a v busy room p s₁ s₂ h
 step t a v (returns room f due r) s₁ s₂ h = result-apart t v room f due r s₁ s₂ h
 step t a v (stores i b) s₁ s₂ h = store-apart t v i b s₁ s₂ h
+step t a v freshens s₁ s₂ h = fresh-apart t v s₁ s₂ h
 
 pub unread-head : (a b : Bool) → (not a && b) ≡ true → (a ≡ false) × (b ≡ true)
 unread-head true b e = absurd (false≢true e)

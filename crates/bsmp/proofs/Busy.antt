@@ -10,14 +10,14 @@ use borrow.Author.Tests.{ltb-true, not-false}
 use Rattle.bsmp.specs.Base.{some, every, first, byteAt}
 use Rattle.bsmp.specs.Codes.{commandOf}
 use Rattle.bsmp.specs.Board.{Table, Layout, layout, State, valueOf, isSame, marked, members, faults}
-use Rattle.bsmp.specs.Message.{Change, nothing, edit, fill, regroup, Line, written, touched, lastTests, formTests, line, check, judge, asked, groupAt, variableAt, noVariable}
+use Rattle.bsmp.specs.Message.{Change, nothing, edit, fill, renew, regroup, Line, written, touched, lastTests, formTests, line, check, judge, asked, groupAt, variableAt, noVariable}
 use Rattle.bsmp.specs.Message.{after, stateAfter, carried, handled}
 use Rattle.bsmp.specs.Packet.{Place, Result, refuse, message, placeTests, packetTests, served, packet}
-use Rattle.bsmp.specs.Apart.{Alike, Event, arrives, returns, stores, happen, reads, endings, unread}
+use Rattle.bsmp.specs.Apart.{Alike, Event, arrives, returns, stores, freshens, happen, reads, endings, unread}
 use Rattle.bsmp.specs.declared.VariableNumber.{VariableNumber}
 use Rattle.bsmp.specs.declared.Command.{Command}
-use Rattle.bsmp.specs.declared.Command.the-variants.{Version, ListVariables, ListGroups, ShowGroup, ListCurves, ListFunctions, ReadVariable, ReadGroup, WriteVariable, WriteGroup}
-use Rattle.bsmp.specs.declared.Command.the-variants.{MaskVariable, MaskGroup, WriteRead, MakeGroup, RemoveGroups, ReadBlock, WriteBlock, RunFunction, Unknown}
+use Rattle.bsmp.specs.declared.Command.the-variants.{Version, ListVariables, ListGroups, ShowGroup, ListCurves, ReadSum, ListFunctions, ReadVariable, ReadGroup, WriteVariable, WriteGroup}
+use Rattle.bsmp.specs.declared.Command.the-variants.{MaskVariable, MaskGroup, WriteRead, MakeGroup, RemoveGroups, ReadBlock, WriteBlock, RenewSum, RunFunction, Unknown}
 use Rattle.bsmp.specs.declared.Check.{Check}
 use Rattle.bsmp.specs.declared.Check.the-variants.{Pass, Fail}
 use Rattle.bsmp.proofs.Bools.{or-false, not-so, and-true}
@@ -28,11 +28,12 @@ use Rattle.bsmp.proofs.Reading.{reads-tells}
 use Rattle.bsmp.proofs.Group.{edited-others, members-known}
 
 -- half a value ----------------------------------------------------------------------------------------------------------------
--- v is marked as busy in what happens; a function's result and a board store go by no mark, and read nothing
+-- v is marked as busy in what happens; a function's result, a board store and the sums of a fresh board go by no mark, and read nothing
 abbrev pub hides : VariableNumber → Event → Bool
 hides v (arrives busy room p) = marked busy v
 hides v (returns room f due r) = true
 hides v (stores i b) = true
+hides v freshens = true
 
 module _ (t : Table) (a : Place) (v : VariableNumber) where
   hidden-one : (e : Event) (s : State) → hides v e ≡ true → reads t a v e s ≡ false
@@ -41,6 +42,7 @@ module _ (t : Table) (a : Place) (v : VariableNumber) where
       true≢false (sym h ∙ told-free (layout t) (s .groups) busy (message p) (r .passes) v (r .told)))
   hidden-one (returns room f due r) s h = refl
   hidden-one (stores i b) s h = refl
+  hidden-one freshens s h = refl
 
   pub hidden-unread : (es : List Event) (s : State) → every (hides v) es ≡ true → unread t a v es s ≡ true
   hidden-unread [] s h = refl
@@ -58,6 +60,7 @@ module _ (t : Table) (a : Place) (v : VariableNumber) where
   after-others nothing s h = refl
   after-others (edit op is ps) s h = edited-others op is ps (s .values) v h
   after-others (fill k d) s h = refl
+  after-others (renew c k n) s h = refl
   after-others (regroup gs) s h = refl
 
   stays-by : (busy : ℕ) (m : List ℕ) (s : State) → marked busy v ≡ true → (c : Check) → judge (layout t) (s .groups) busy m ≡ c
@@ -78,7 +81,7 @@ module _ (t : Table) (a : Place) (v : VariableNumber) where
 -- the lists, 06, 40 and all others that touch no variable's value
 abbrev pub markless : List Command
 markless =
-    Version ∷ ListVariables ∷ ListGroups ∷ ShowGroup ∷ ListCurves ∷ ListFunctions ∷ MakeGroup ∷ RemoveGroups ∷ ReadBlock ∷ WriteBlock ∷ RunFunction ∷ Unknown
+    Version ∷ ListVariables ∷ ListGroups ∷ ShowGroup ∷ ListCurves ∷ ReadSum ∷ ListFunctions ∷ MakeGroup ∷ RemoveGroups ∷ ReadBlock ∷ WriteBlock ∷ RenewSum ∷ RunFunction ∷ Unknown
     ∷ []
 
 pub markless-same : (l : Layout) (gs : List ℕ) (busy busy′ : ℕ) (p : List ℕ) → map (check l gs busy p) markless ≡ map (check l gs busy′ p) markless
@@ -101,6 +104,7 @@ module _ (l : Layout) where
     touched-known ListGroups c = refl
     touched-known ShowGroup c = refl
     touched-known ListCurves c = refl
+    touched-known ReadSum c = refl
     touched-known ListFunctions c = refl
     touched-known ReadVariable c = found (variableAt p 0) [] (clear-at (line l gs p ReadVariable .tests) c 1) refl
     touched-known ReadGroup c = rw (append-nil (members l gs (groupAt p 0))) (members-known l gs (groupAt p 0))
@@ -115,6 +119,7 @@ module _ (l : Layout) where
     touched-known RemoveGroups c = refl
     touched-known ReadBlock c = refl
     touched-known WriteBlock c = refl
+    touched-known RenewSum c = refl
     touched-known RunFunction c = refl
     touched-known Unknown c = refl
 

@@ -13,8 +13,8 @@ use Rattle.bsmp.specs.Message.{Said, replies, runs, spoken, said, stateA
 use Rattle.bsmp.specs.Packet.{Place, Ending, reply, silence, run, refuse, ends, placeTests, packetTests, served, packet, message}
 use Rattle.bsmp.specs.declared.FunctionNumber.{FunctionNumber}
 use Rattle.bsmp.specs.declared.Command.{Command}
-use Rattle.bsmp.specs.declared.Command.the-variants.{Version, ListVariables, ListGroups, ShowGroup, ListCurves, ListFunctions, ReadVariable, ReadGroup, WriteVariable, WriteGroup}
-use Rattle.bsmp.specs.declared.Command.the-variants.{MaskVariable, MaskGroup, WriteRead, MakeGroup, RemoveGroups, ReadBlock, WriteBlock, RunFunction, Unknown}
+use Rattle.bsmp.specs.declared.Command.the-variants.{Version, ListVariables, ListGroups, ShowGroup, ListCurves, ReadSum, ListFunctions, ReadVariable, ReadGroup, WriteVariable, WriteGroup}
+use Rattle.bsmp.specs.declared.Command.the-variants.{MaskVariable, MaskGroup, WriteRead, MakeGroup, RemoveGroups, ReadBlock, WriteBlock, RenewSum, RunFunction, Unknown}
 use Rattle.bsmp.proofs.Chain.{first-case}
 use Rattle.bsmp.proofs.Accepted.{judge-case}
 
@@ -36,6 +36,7 @@ line-runs l gs m ListVariables s = tt
 line-runs l gs m ListGroups s = tt
 line-runs l gs m ShowGroup s = tt
 line-runs l gs m ListCurves s = tt
+line-runs l gs m ReadSum s = tt
 line-runs l gs m ListFunctions s = tt
 line-runs l gs m ReadVariable s = tt
 line-runs l gs m ReadGroup s = tt
@@ -48,6 +49,7 @@ line-runs l gs m MakeGroup s = tt
 line-runs l gs m RemoveGroups s = tt
 line-runs l gs m ReadBlock s = tt
 line-runs l gs m WriteBlock s = tt
+line-runs l gs m RenewSum s = tt
 line-runs l gs m RunFunction s = (drop-drop 1 3 m, refl)
 line-runs l gs m Unknown s = tt
 

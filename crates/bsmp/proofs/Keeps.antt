@@ -4,11 +4,11 @@ use mathlib.Core.Bool.{Bool, true, false}
 use mathlib.Core.List.{List}
 use Prim.Native.Nat.{ℕ}
 use native.Mathlib.Omega.{arith}
-use Rattle.bsmp.specs.Board.{Table, Layout, layout, State, withValues, faults}
+use Rattle.bsmp.specs.Board.{Table, Layout, layout, State, withValues, withSums, fresh, faults}
 use Rattle.bsmp.specs.Message.{Said, replies, runs, after, carried, stateAfter, handled, asked, judge}
-use Rattle.bsmp.specs.Packet.{Place, Ending, reply, silence, run, Result, refuse, Ran, ends, placeTests, packetTests, served, packet, resultTests, functionResult, storeTests, boardStore, isOwn, destination}
+use Rattle.bsmp.specs.Packet.{Place, Ending, reply, silence, run, Result, refuse, Ran, ends, placeTests, packetTests, served, packet, resultTests, functionResult, storeTests, boardStore, freshBoard, isOwn, destination}
 use Rattle.bsmp.specs.Store.{Lent, held, lentOf, outcomeOf, shown}
-use Rattle.bsmp.specs.Apart.{Event, arrives, returns, stores, happen, Call, eventOf, bufferOf, leftBy}
+use Rattle.bsmp.specs.Apart.{Event, arrives, returns, stores, freshens, happen, Call, eventOf, bufferOf, leftBy}
 use Rattle.bsmp.specs.declared.VariableNumber.{VariableNumber}
 use Rattle.bsmp.specs.declared.FunctionNumber.{FunctionNumber}
 use Rattle.bsmp.specs.declared.Refusal.{Refusal}
@@ -38,7 +38,7 @@ silence-allowed r h = let z : _≡_ {A = ℕ} 0 1 = cc in absurd (omega arith)
 
 -- "A local refusal returns its number only and changes no byte of any store, group table"
 pub refusal-keeps : (t : Table) (a : Place) (e : Event) (s : State) (r : Refusal) → happen t a e s .ending ≡ Ending.refused r → happen t a e s .state ≡ s
-unfolding packet served functionResult boardStore
+unfolding packet served functionResult boardStore freshBoard
 refusal-keeps t a (arrives busy room p) s r =
     first-case (λ x. x .ending ≡ Ending.refused r → x .state ≡ s) (faults t s) (refuse s) _ (λ m h. refl)
     (λ b. first-case (λ x. x .ending ≡ Ending.refused r → x .state ≡ s) (placeTests a room) (refuse s) _ (λ m h. refl)
@@ -51,6 +51,8 @@ refusal-keeps t a (stores i b) s r =
     first-case (λ x. x .ending ≡ Ending.refused r → x .state ≡ s) (faults t s) (refuse s) _ (λ m h. refl)
     (λ d. first-case (λ x. x .ending ≡ Ending.refused r → x .state ≡ s) (storeTests (layout t) i b) (refuse s) _ (λ m h. refl)
     (λ c h. absurd (silence-allowed r h)))
+refusal-keeps t a freshens s r =
+    first-case (λ x. x .ending ≡ Ending.refused r → x .state ≡ s) (faults t s) (refuse s) _ (λ m h. refl) (λ b h. absurd (silence-allowed r h))
 
 pub outcome-refused : (e : Ending) (r : Refusal) → outcomeOf e ≡ Refused r → e ≡ Ending.refused r
 outcome-refused (reply b) r h = cc
@@ -58,7 +60,7 @@ outcome-refused silence r h = cc
 outcome-refused (run f i due) r h = cc
 outcome-refused (Ending.refused m) r h = cc
 
--- a function's result changes nothing that the board holds, a board store the values alone
+-- a function's result changes nothing that the board holds, a board store the values alone, a fresh board the sums alone
 pub result-keeps : (t : Table) (room : ℕ) (f : FunctionNumber) (due : Bool) (r : Ran) (s : State) → functionResult t room f due r s .state ≡ s
 unfolding functionResult
 result-keeps t room f due r s =
@@ -70,6 +72,10 @@ unfolding boardStore after
 store-keeps t i b s =
     let Kept : Result → Type 0 = λ x. x .state ≡ withValues s (x .state .values) in
     first-case Kept (faults t s) (refuse s) _ (λ m. refl) (λ d. first-case Kept (storeTests (layout t) i b) (refuse s) _ (λ m. refl) (λ c. refl))
+
+pub fresh-keeps : (t : Table) (s : State) → freshBoard t s .state ≡ withSums s (freshBoard t s .state .sums)
+unfolding freshBoard fresh
+fresh-keeps t s = first-case (λ x. x .state ≡ withSums s (x .state .sums)) (faults t s) (refuse s) _ (λ m. refl) (λ c. refl)
 
 -- the same over what is lent: no byte of any store, group table or buffer, whatever their lengths
 pub refusal-keeps-lent : (t : Table) (a : Place) (c : Call) (x : Lent) (r : Refusal) → leftBy t a c x .outcome ≡ Refused r

@@ -9,7 +9,7 @@ use native.Mathlib.Decide.{decLt}
 use lib.ListN.{length, drop, length-map, List·getD-eq-default}
 use lib.Seq.{take-at}
 use Rattle.bsmp.specs.Base.{sum, cut, join}
-use Rattle.bsmp.specs.Board.{Table, Layout, layout, State, valueOf, blockSizes, usable}
+use Rattle.bsmp.specs.Board.{Table, Layout, layout, State, valueOf, blockSizes, sumSizes, usable}
 use Rattle.bsmp.specs.Packet.{Place, Ending, reply, silence, run, Result}
 use Rattle.bsmp.specs.Store.{Lent, held, lentOf, bytesIn, outcomeOf, shown}
 use Rattle.bsmp.specs.Apart.{Alike, happen, reads, answerOf, endings, later, unread}
@@ -57,6 +57,7 @@ module _ (t : Table) (v : VariableNumber) where
     others = λ i n. by i n (decLt (i .0) (length (L .sizes)));
     lengths = values-kept x₁ u₁ ∙ sym (values-kept x₂ u₂);
     blocks = ap (cut (blockSizes (t .curves))) (h .blocks);
+    sums = ap (cut (sumSizes (t .curves))) (h .sums);
     groups = h .groups;
   }
     where
@@ -72,6 +73,7 @@ module _ (t : Table) (v : VariableNumber) where
     others = λ i k n. sym (value-in L x₁ i k) ∙ h .others i n ∙ value-in L x₂ i k;
     lengths = sym (whole x₁) ∙ ap (λ l. sum l) (h .lengths) ∙ whole x₂;
     blocks = sym (join-cut (blockSizes (t .curves)) (x₁ .blocks)) ∙ ap join (h .blocks) ∙ join-cut (blockSizes (t .curves)) (x₂ .blocks);
+    sums = sym (join-cut (sumSizes (t .curves)) (x₁ .sums)) ∙ ap join (h .sums) ∙ join-cut (sumSizes (t .curves)) (x₂ .sums);
     groups = h .groups;
   }
 

@@ -21,3 +21,4 @@ pub mod Wrong
 pub mod Lent
 pub mod Input
 pub mod Edges
+pub mod Sums

@@ -11,12 +11,12 @@ use Rattle.bsmp.specs.Codes.{commandOf}
 use Rattle.bsmp.specs.Board.{Table, Layout, layout, State, isSame, marked, members, usable, faults}
 use Rattle.bsmp.specs.Message.{Line, line, touched, formTests, judge, asked, variableAt, groupAt}
 use Rattle.bsmp.specs.Packet.{Place, placeTests, packetTests, isOwn, destination, message}
-use Rattle.bsmp.specs.Apart.{Alike, Event, arrives, returns, stores, tells, readBy, readsIn, reads}
+use Rattle.bsmp.specs.Apart.{Alike, Event, arrives, returns, stores, freshens, tells, readBy, readsIn, reads}
 use Rattle.bsmp.specs.declared.VariableNumber.{VariableNumber}
 use Rattle.bsmp.specs.declared.Refusal.{Refusal}
 use Rattle.bsmp.specs.declared.Command.{Command}
-use Rattle.bsmp.specs.declared.Command.the-variants.{Version, ListVariables, ListGroups, ShowGroup, ListCurves, ListFunctions, ReadVariable, ReadGroup, WriteVariable, WriteGroup}
-use Rattle.bsmp.specs.declared.Command.the-variants.{MaskVariable, MaskGroup, WriteRead, MakeGroup, RemoveGroups, ReadBlock, WriteBlock, RunFunction, Unknown}
+use Rattle.bsmp.specs.declared.Command.the-variants.{Version, ListVariables, ListGroups, ShowGroup, ListCurves, ReadSum, ListFunctions, ReadVariable, ReadGroup, WriteVariable, WriteGroup}
+use Rattle.bsmp.specs.declared.Command.the-variants.{MaskVariable, MaskGroup, WriteRead, MakeGroup, RemoveGroups, ReadBlock, WriteBlock, RenewSum, RunFunction, Unknown}
 use Rattle.bsmp.specs.declared.Check.{Check}
 use Rattle.bsmp.specs.declared.Check.the-variants.{Pass, Fail}
 use Rattle.bsmp.proofs.Bools.{or-false, or-nothing, and-true}
@@ -31,6 +31,7 @@ reads-same t a v (arrives busy room p) s₁ s₂ h =
     (faults-alike t v s₁ s₂ h) (h .groups)
 reads-same t a v (returns room f due r) s₁ s₂ h = refl
 reads-same t a v (stores i b) s₁ s₂ h = refl
+reads-same t a v freshens s₁ s₂ h = refl
 
 -- 01's ways to read v with the payload p, "alone, in a group, or as the read half of write-and-read", and what must not be busy then, by
 -- 02's 2026-01: the variable, "any busy member", "either variable"
@@ -62,6 +63,7 @@ module _ (l : Layout) (gs : List ℕ) (busy : ℕ) (v : VariableNumber) (p : Lis
   tells-way ListGroups h f = absurd (false≢true h)
   tells-way ShowGroup h f = absurd (false≢true h)
   tells-way ListCurves h f = absurd (false≢true h)
+  tells-way ReadSum h f = absurd (false≢true h)
   tells-way ListFunctions h f = absurd (false≢true h)
   tells-way ReadVariable h f =
       let e : v ≡ variableAt p 0 = same-number _ v (sym (or-nothing _) ∙ h) in
@@ -79,6 +81,7 @@ module _ (l : Layout) (gs : List ℕ) (busy : ℕ) (v : VariableNumber) (p : Lis
   tells-way RemoveGroups h f = absurd (false≢true h)
   tells-way ReadBlock h f = absurd (false≢true h)
   tells-way WriteBlock h f = absurd (false≢true h)
+  tells-way RenewSum h f = absurd (false≢true h)
   tells-way RunFunction h f = absurd (false≢true h)
   tells-way Unknown h f = absurd (false≢true h)
 

@@ -9,25 +9,25 @@ use lib.ListN.{length, drop, getD, length-append, length-map}
 use borrow.Author.Tests.{leb-true, ltb-true, eqb-true, not-false}
 use Rattle.bsmp.specs.Base.{all, every, sum, join, upFrom, within, byteAt, wordAt}
 use Rattle.bsmp.specs.Codes.{errorCode, commandOf}
-use Rattle.bsmp.specs.Board.{variable, group, curve, Table, Layout, layout, State, valueOf, blockOf, inGroup, sizesOf, sizeOf, variables, members, blankCurve, blankFunction, curveOf, blockPlace, functionOf}
+use Rattle.bsmp.specs.Board.{variable, group, curve, Table, Layout, layout, State, valueOf, blockOf, sumOf, inGroup, sizesOf, sizeOf, variables, members, blankCurve, blankFunction, curveOf, blockPlace, functionOf}
 use Rattle.bsmp.specs.Board.{variableRules, usableCurve, curveRules, usable, faults, usableVariables, usableCurves, usableFunctions, usableGroups}
-use Rattle.bsmp.specs.Message.{Answer, say, tell, show, call, variableList, groupList, curveRecord, curveList, functionList, Line, testsOf, line, messageOf, asked, after, valuesOf, replies, spoken, stateAfter, said, carried, handled}
-use Rattle.bsmp.specs.Packet.{Place, Ending, reply, silence, run, refuse, checksum, packed, frame, ends, placeTests, packetTests, served, packet, Ran, gave, failed, badOutput, ranSays, resultTests, functionResult, storeTests, boardStore, message}
-use Rattle.bsmp.specs.Apart.{Event, arrives, returns, stores, happen}
+use Rattle.bsmp.specs.Message.{Answer, say, tell, show, attest, call, variableList, groupList, curveRecord, curveList, functionList, Line, testsOf, line, messageOf, asked, after, valuesOf, replies, spoken, stateAfter, said, carried, handled}
+use Rattle.bsmp.specs.Packet.{Place, Ending, reply, silence, run, refuse, checksum, packed, frame, ends, placeTests, packetTests, served, packet, Ran, gave, failed, badOutput, ranSays, resultTests, functionResult, storeTests, boardStore, freshBoard, message}
+use Rattle.bsmp.specs.Apart.{Event, arrives, returns, stores, freshens, happen}
 use Rattle.bsmp.specs.declared.VariableNumber.{VariableNumber}
 use Rattle.bsmp.specs.declared.GroupNumber.{GroupNumber}
 use Rattle.bsmp.specs.declared.FunctionNumber.{FunctionNumber}
 use Rattle.bsmp.specs.declared.Curve.{Curve}
 use Rattle.bsmp.specs.declared.Function.{Function}
 use Rattle.bsmp.specs.declared.Command.{Command}
-use Rattle.bsmp.specs.declared.Command.the-variants.{Version, ListVariables, ListGroups, ShowGroup, ListCurves, ListFunctions, ReadVariable, ReadGroup, WriteVariable, WriteGroup}
-use Rattle.bsmp.specs.declared.Command.the-variants.{MaskVariable, MaskGroup, WriteRead, MakeGroup, RemoveGroups, ReadBlock, WriteBlock, RunFunction, Unknown}
+use Rattle.bsmp.specs.declared.Command.the-variants.{Version, ListVariables, ListGroups, ShowGroup, ListCurves, ReadSum, ListFunctions, ReadVariable, ReadGroup, WriteVariable, WriteGroup}
+use Rattle.bsmp.specs.declared.Command.the-variants.{MaskVariable, MaskGroup, WriteRead, MakeGroup, RemoveGroups, ReadBlock, WriteBlock, RenewSum, RunFunction, Unknown}
 use Rattle.bsmp.proofs.Bools.{and-true, all-at}
 use Rattle.bsmp.proofs.Lists.{map-map, sum-append, every-at, length-upFrom, map-numbers, only-length, only-sum}
 use Rattle.bsmp.proofs.Chain.{clear, clear-at, broken-at, first-case}
 use Rattle.bsmp.proofs.Usable.{Usable, usable-parts, clear-usable}
 use Rattle.bsmp.proofs.Accepted.{judge-case}
-use Rattle.bsmp.proofs.Stays.{value-length, block-length, line-fits, after-usable}
+use Rattle.bsmp.proofs.Stays.{value-length, block-length, sum-length, line-fits, after-usable}
 
 -- groups: no more members than there are variables, and no more bytes than they have -----------------------------------------
 count-variables : (l : Layout) → length (variables l) ≡ length (l .sizes)
@@ -95,6 +95,7 @@ abbrev Small : Table → State → Answer → Type 0
 Small t s (say c p) = length p ≤ 4099
 Small t s (tell c is) = sum (map (sizeOf (layout t)) is) ≤ 4099
 Small t s (show c front k) = length front + length (blockOf s k) ≤ 4099
+Small t s (attest c n) = length (sumOf s n) ≤ 4099
 Small t s (call f i) = Unit {0}
 
 five-each : (f : Curve → List ℕ) (cs : List Curve) → ((c : Curve) → length (f c) ≡ 5) → length (join (map f cs)) ≡ 5 * length cs
@@ -123,6 +124,9 @@ module _ (t : Table) (s : State) (busy : ℕ) (p : List ℕ) (h : usable t s ≡
   line-small ShowGroup c =
       simp length-map (omega (arith, group-count (layout t) (s .groups) (group (byteAt p 0)), length-map (t .variables) (λ v. v .size), limits t s h))
   line-small ListCurves c = omega (arith, five-each curveRecord (t .curves) (λ x. refl), limits t s h)
+  line-small ReadSum c =
+      let known : byteAt p 0 < length (t .curves) = ltb-true _ _ (not-false _ (clear-at (testsOf (row ReadSum) busy) c 1)) in
+      omega (arith, sum-length t s (usable-parts t s h) (curve (byteAt p 0)) known)
   line-small ListFunctions c = simp length-map (omega (arith, limits t s h))
   line-small ReadVariable c = omega (arith, one-size (layout t) (variable (byteAt p 0)), limits t s h)
   line-small ReadGroup c = omega (arith, group-bytes (layout t) (s .groups) (group (byteAt p 0)), limits t s h)
@@ -141,6 +145,7 @@ module _ (t : Table) (s : State) (busy : ℕ) (p : List ℕ) (h : usable t s ≡
       block-length t s (usable-parts t s h) (curve (byteAt p 0)) (wordAt p 1) known (ltb-true _ _ (not-false _ (at 2))) in
       omega (arith, limits t s h .block (byteAt p 0) known)
   line-small WriteBlock c = lit≤ tt
+  line-small RenewSum c = lit≤ tt
   line-small RunFunction c = tt
   line-small Unknown c = lit≤ tt
 
@@ -177,6 +182,7 @@ unfolding spoken ends
 spoken-well t s due (say c p) u h = ends-well due c p h
 spoken-well t s due (tell c is) u h = ends-well due c (valuesOf (s .values) is) (rw (told-bytes t s u is) h)
 spoken-well t s due (show c front k) u h = ends-well due c (front ++ blockOf s k) (rw (length-append front (blockOf s k)) h)
+spoken-well t s due (attest c n) u h = ends-well due c (sumOf s n) h
 spoken-well t s due (call f i) u h = tt
 
 handled-well : (t : Table) (busy : ℕ) (m : List ℕ) (s : State) (due : Bool) → usable t s ≡ true → WellSent (ends due (handled (layout t) busy m s .says))
@@ -201,7 +207,7 @@ served-well t busy due m s h = handled-well t busy m s due h
 
 -- every reply that an event gives
 pub well-sent : (t : Table) (a : Place) (e : Event) (s : State) → WellSent (happen t a e s .ending)
-unfolding packet functionResult boardStore
+unfolding packet functionResult boardStore freshBoard
 well-sent t a (arrives busy room p) s =
     first-case (λ r. WellSent (r .ending)) (faults t s) (refuse s) _ (λ n. tt)
     (λ b. first-case (λ r. WellSent (r .ending)) (placeTests a room) (refuse s) _ (λ n. tt)
@@ -215,3 +221,4 @@ well-sent t a (returns room f due r) s =
 well-sent t a (stores i b) s =
     first-case (λ x. WellSent (x .ending)) (faults t s) (refuse s) _ (λ n. tt)
     (λ c. first-case (λ x. WellSent (x .ending)) (storeTests (layout t) i b) (refuse s) _ (λ n. tt) (λ d. tt))
+well-sent t a freshens s = first-case (λ x. WellSent (x .ending)) (faults t s) (refuse s) _ (λ n. tt) (λ c. tt)

@@ -9,22 +9,24 @@ use lib.Dec.{eqb, leb, ltb}
 use lib.ListN.{length, take, drop, set, getD, replicate, length-append, length-drop, length-map, length-replicate, getD-replicate, List·getD-append, List·getD-map}
 use lib.Seq.{set-getD, getD-append-add}
 use borrow.Author.Tests.{eq-eqb, eqb-true, leb-true, leb-false, ltb-true, not-false, le-leb, lt-ltb}
+use Rattle.md5.specs.Md5.{digest}
+use Rattle.md5.proofs.Suite.{length-digest}
 use Rattle.bsmp.specs.Base.{some, every, sum, join, cut, byteAt, wordAt, upFrom}
 use Rattle.bsmp.specs.Codes.{commandOf}
 use Rattle.bsmp.specs.Board.{variable, curve, Table, Layout, layout, State, valueOf, blockOf, sizeOf, variables, isSame, groupBytes, setOf, blankCurve, curveOf, blockSizes, blockPlace}
-use Rattle.bsmp.specs.Board.{withValues, withBlocks, usable, usableGroups, faults}
-use Rattle.bsmp.specs.Message.{Change, nothing, edit, fill, regroup, writesVariable, writesGroup, Line, testsOf, line, asked, changed, edited, filled, after, stateAfter, carried, handled}
-use Rattle.bsmp.specs.Packet.{Place, refuse, placeTests, packetTests, served, packet, resultTests, functionResult, storeTests, boardStore, message}
+use Rattle.bsmp.specs.Board.{withValues, withBlocks, withSums, contentOf, sumOf, curveSum, sumSizes, fresh, usable, usableGroups, faults}
+use Rattle.bsmp.specs.Message.{Change, nothing, edit, fill, renew, regroup, writesVariable, writesGroup, Line, testsOf, line, asked, changed, edited, filled, after, stateAfter, carried, handled}
+use Rattle.bsmp.specs.Packet.{Place, refuse, placeTests, packetTests, served, packet, resultTests, functionResult, storeTests, boardStore, freshBoard, message}
 use Rattle.bsmp.specs.Store.{held, lentOf}
-use Rattle.bsmp.specs.Apart.{Event, arrives, returns, stores, happen, later}
+use Rattle.bsmp.specs.Apart.{Event, arrives, returns, stores, freshens, happen, later}
 use Rattle.bsmp.specs.declared.VariableNumber.{VariableNumber}
 use Rattle.bsmp.specs.declared.CurveNumber.{CurveNumber}
 use Rattle.bsmp.specs.declared.Curve.{Curve}
 use Rattle.bsmp.specs.declared.Operation.{Operation}
 use Rattle.bsmp.specs.declared.Operation.the-variants.{Replace}
 use Rattle.bsmp.specs.declared.Command.{Command}
-use Rattle.bsmp.specs.declared.Command.the-variants.{Version, ListVariables, ListGroups, ShowGroup, ListCurves, ListFunctions, ReadVariable, ReadGroup, WriteVariable, WriteGroup}
-use Rattle.bsmp.specs.declared.Command.the-variants.{MaskVariable, MaskGroup, WriteRead, MakeGroup, RemoveGroups, ReadBlock, WriteBlock, RunFunction, Unknown}
+use Rattle.bsmp.specs.declared.Command.the-variants.{Version, ListVariables, ListGroups, ShowGroup, ListCurves, ReadSum, ListFunctions, ReadVariable, ReadGroup, WriteVariable, WriteGroup}
+use Rattle.bsmp.specs.declared.Command.the-variants.{MaskVariable, MaskGroup, WriteRead, MakeGroup, RemoveGroups, ReadBlock, WriteBlock, RenewSum, RunFunction, Unknown}
 use Rattle.bsmp.proofs.Bools.{or-false, and-true}
 use Rattle.bsmp.proofs.Accepted.{judge-case}
 use Rattle.bsmp.proofs.Lists.{map-set, map-map, every-last, length-upFrom}
@@ -38,6 +40,7 @@ abbrev pub Fits : Table → State → Change → Type 0
 Fits t s nothing = Unit {0}
 Fits t s (edit op is ps) = map length ps ≡ map (sizeOf (layout t)) is
 Fits t s (fill k d) = length d ≤ length (blockOf s k)
+Fits t s (renew c k n) = Unit {0}
 Fits t s (regroup gs) = usableGroups (length (t .variables)) gs ≡ true
 
 pub value-length : (t : Table) (s : State) → Usable t s → (i : VariableNumber) → length (valueOf s i) ≡ sizeOf (layout t) i
@@ -61,16 +64,35 @@ edited-lengths l op (i ∷ is) (p ∷ ps) vs u h =
     map-set length vs n _ ∙ ap (set (map length vs) n) (one ∙ sym (List·getD-map length vs n [])) ∙ set-getD (map length vs) n 0 in
     edited-lengths l op is ps _ (same′ ∙ u) (tail-eq-of-cons-eq h) ∙ same′
 
+-- a sum renewed, and all of them worked out, are of 16 bytes each
+sums-set : (t : Table) (s : State) (c : CurveNumber) (m : List ℕ) → Usable t s → map length (set (s .sums) (c .0) (digest m)) ≡ map length (s .sums)
+sums-set t s c m u =
+    let n : ℕ = c .0 in
+    let e : 16 ≡ getD (map length (s .sums)) n 16 = sym (ap (λ l. getD l n 16) (u .sums) ∙ List·getD-map (λ (x : Curve). 16) (t .curves) n blankCurve) in
+    map-set length (s .sums) n (digest m) ∙ ap (set (map length (s .sums)) n) (length-digest m ∙ e) ∙ set-getD (map length (s .sums)) n 16
+
+each-sixteen : (f : ℕ → List ℕ) (i : ℕ) (cs : List Curve) → ((k : ℕ) → length (f k) ≡ 16) → map length (map f (upFrom i (length cs))) ≡ sumSizes cs
+each-sixteen f i [] h = refl
+each-sixteen f i (c ∷ cs) h = ap₂ _∷_ (h i) (each-sixteen f (suc i) cs h)
+
+pub fresh-usable : (t : Table) (s : State) → usable t s ≡ true → usable t (fresh (layout t) s) ≡ true
+unfolding fresh
+fresh-usable t s h =
+    usable-by t _ s refl refl
+    (each-sixteen (λ c. curveSum (layout t) s (curve c)) 0 (t .curves) (λ c. length-digest _) ∙ sym (usable-parts t s h .sums)) refl
+    ∙ h
+
 pub after-usable : (t : Table) (s : State) (ch : Change) → usable t s ≡ true → Fits t s ch → usable t (after ch s) ≡ true
 unfolding after
 after-usable t s nothing h k = h
-after-usable t s (edit op is ps) h k = usable-by t _ s (edited-lengths (layout t) op is ps (s .values) (usable-parts t s h .values) k) refl refl ∙ h
+after-usable t s (edit op is ps) h k = usable-by t _ s (edited-lengths (layout t) op is ps (s .values) (usable-parts t s h .values) k) refl refl refl ∙ h
 after-usable t s (fill i d) h k =
     let one : length (filled d (blockOf s i)) ≡ length (blockOf s i) = simp (length-append, length-drop) (omega arith) in
     usable-by t _ s refl
     (map-set length (s .blocks) i _ ∙ ap (set (map length (s .blocks)) i) (one ∙ sym (List·getD-map length (s .blocks) i []))
-    ∙ set-getD (map length (s .blocks)) i 0) refl
+    ∙ set-getD (map length (s .blocks)) i 0) refl refl
     ∙ h
+after-usable t s (renew c k n) h u = usable-by t _ s refl refl (sums-set t s c (contentOf s k n) (usable-parts t s h)) refl ∙ h
 after-usable t s (regroup gs) h k = usable-regrouped t s gs h k
 
 -- each command's change fits where its tests pass ---------------------------------------------------------------------------
@@ -94,6 +116,16 @@ pub block-length : (t : Table) (s : State) → Usable t s → (c : CurveNumber) 
 block-length t s u c k a b =
     sym (List·getD-map length (s .blocks) (blockPlace (layout t) c k) []) ∙ ap (λ x. getD x (blockPlace (layout t) c k) 0) (u .blocks)
     ∙ block-size (t .curves) (c .0) k a b
+
+pub sum-length : (t : Table) (s : State) → Usable t s → (c : CurveNumber) → c .0 < length (t .curves) → length (sumOf s c) ≡ 16
+sum-length t s u c h =
+    let n : length (s .sums) ≡ length (t .curves) = sym (length-map (s .sums) length) ∙ ap length (u .sums) ∙ length-map (t .curves) (λ x. 16) in
+    sym (List·getD-map length (s .sums) (c .0) []) ∙ ap (λ l. getD l (c .0) 0) (u .sums) ∙ sixteen (t .curves) (c .0) h
+  where
+    sixteen : (cs : List Curve) (i : ℕ) → i < length cs → getD (sumSizes cs) i 0 ≡ 16
+    sixteen [] i k = absurd (omega (arith, k))
+    sixteen (x ∷ cs) zero k = refl
+    sixteen (x ∷ cs) (suc i) k = sixteen cs i (omega (arith, k))
 
 drop-rest : (n m : ℕ) (p : List ℕ) → not (eqb (length p) (n + m)) ≡ false → length (drop n p) ≡ m
 drop-rest n m p h = let e : length p ≡ n + m = eqb-true _ _ (not-false _ h) in simp length-drop (omega arith)
@@ -143,6 +175,7 @@ module _ (t : Table) (s : State) (busy : ℕ) (p : List ℕ) (h : usable t s ≡
   line-fits ListGroups c = tt
   line-fits ShowGroup c = tt
   line-fits ListCurves c = tt
+  line-fits ReadSum c = tt
   line-fits ListFunctions c = tt
   line-fits ReadVariable c = tt
   line-fits ReadGroup c = tt
@@ -162,6 +195,7 @@ module _ (t : Table) (s : State) (busy : ℕ) (p : List ℕ) (h : usable t s ≡
       let d : length (drop 3 p) ≤ curveOf (layout t) (curve (byteAt p 0)) .size =
       rw length-drop (leb-true _ _ (and-true (leb 1 (length p - 3)) _ (not-false _ (at 3)) .1)) in
       rw (block-length t s (usable-parts t s h) (curve (byteAt p 0)) (wordAt p 1) (ltb-true _ _ (not-false _ (at 1))) (ltb-true _ _ (not-false _ (at 2)))) d
+  line-fits RenewSum c = tt
   line-fits RunFunction c = tt
   line-fits Unknown c = tt
 
@@ -177,7 +211,7 @@ unfolding served
 served-usable t busy due m s h = handled-usable t busy m s h
 
 pub stays : (t : Table) (a : Place) (e : Event) (s : State) → usable t s ≡ true → usable t (happen t a e s .state) ≡ true
-unfolding packet functionResult boardStore
+unfolding packet functionResult boardStore freshBoard
 stays t a (arrives busy room p) s h =
     first-case (λ r. usable t (r .state) ≡ true) (faults t s) (refuse s) _ (λ n. h)
     (λ b. first-case (λ r. usable t (r .state) ≡ true) (placeTests a room) (refuse s) _ (λ n. h)
@@ -189,6 +223,7 @@ stays t a (stores i b) s h =
     first-case (λ x. usable t (x .state) ≡ true) (faults t s) (refuse s) _ (λ n. h)
     (λ c. first-case (λ x. usable t (x .state) ≡ true) (storeTests (layout t) i b) (refuse s) _ (λ n. h)
     (λ d. after-usable t s (edit Replace (i ∷ []) (b ∷ [])) h (ap (_∷ []) (eqb-true _ _ (not-false _ (clear-at (storeTests (layout t) i b) d 1))))))
+stays t a freshens s h = first-case (λ x. usable t (x .state) ≡ true) (faults t s) (refuse s) _ (λ n. h) (λ c. fresh-usable t s h)
 
 pub later-usable : (t : Table) (a : Place) (es : List Event) (s : State) → usable t s ≡ true → usable t (later t a es s) ≡ true
 later-usable t a [] s h = h
@@ -198,6 +233,7 @@ later-usable t a (e ∷ es) s h = later-usable t a es (happen t a e s .state) (s
 pub held-again : (t : Table) (s : State) → usable t s ≡ true → held (layout t) (lentOf s) ≡ s
 held-again t s h =
     let u : Usable t s = usable-parts t s h in
-    ap₂ (λ vs bs. withBlocks (withValues s vs) bs)
-    (ap (λ ns. cut ns (join (s .values))) (sym (u .values)) ∙ cut-join (s .values))
-    (ap (λ ns. cut ns (join (s .blocks))) (sym (u .blocks)) ∙ cut-join (s .blocks))
+    let vs : cut (layout t .sizes) (join (s .values)) ≡ s .values = ap (λ ns. cut ns (join (s .values))) (sym (u .values)) ∙ cut-join (s .values) in
+    let bs : cut (blockSizes (t .curves)) (join (s .blocks)) ≡ s .blocks = ap (λ ns. cut ns (join (s .blocks))) (sym (u .blocks)) ∙ cut-join (s .blocks) in
+    let ds : cut (sumSizes (t .curves)) (join (s .sums)) ≡ s .sums = ap (λ ns. cut ns (join (s .sums))) (sym (u .sums)) ∙ cut-join (s .sums) in
+    λ i. record { values = vs i; blocks = bs i; sums = ds i; groups = s .groups }

@@ -8,9 +8,9 @@ use lib.IntN.{ℤ}
 use lib.ListN.{length, getD}
 use Rattle.bsmp.specs.Base.{Test, first, ascending}
 use Rattle.bsmp.specs.Codes.{errorCode, refusalNumber}
-use Rattle.bsmp.specs.Board.{Table, Layout, layout, State, faults}
+use Rattle.bsmp.specs.Board.{Table, Layout, layout, State, fresh, faults}
 use Rattle.bsmp.specs.Message.{line, testsOf, formTests, writesVariable, writesGroup, edit, after}
-use Rattle.bsmp.specs.Packet.{Place, silence, refuse, isOwn, destination, message, ends, placeTests, packetTests, served, packet, Ran, ranSays, resultTests, functionResult, storeTests, boardStore}
+use Rattle.bsmp.specs.Packet.{Place, silence, refuse, isOwn, destination, message, ends, placeTests, packetTests, served, packet, Ran, ranSays, resultTests, functionResult, storeTests, boardStore, freshBoard}
 use Rattle.bsmp.specs.Number.{numberOf, bytesOf, isBig, kindAt, readingTests, rangeTests, Reading, is, reading, Written, bytes, writing}
 use Rattle.bsmp.specs.declared.VariableNumber.{VariableNumber}
 use Rattle.bsmp.specs.declared.FunctionNumber.{FunctionNumber}
@@ -19,8 +19,8 @@ use Rattle.bsmp.specs.declared.Operation.the-variants.{Replace}
 use Rattle.bsmp.specs.declared.Refusal.{Refusal}
 use Rattle.bsmp.specs.declared.WireError.{WireError}
 use Rattle.bsmp.specs.declared.Command.{Command}
-use Rattle.bsmp.specs.declared.Command.the-variants.{Version, ListVariables, ListGroups, ShowGroup, ListCurves, ListFunctions, ReadVariable, ReadGroup, WriteVariable, WriteGroup}
-use Rattle.bsmp.specs.declared.Command.the-variants.{MaskVariable, MaskGroup, WriteRead, MakeGroup, RemoveGroups, ReadBlock, WriteBlock, RunFunction, Unknown}
+use Rattle.bsmp.specs.declared.Command.the-variants.{Version, ListVariables, ListGroups, ShowGroup, ListCurves, ReadSum, ListFunctions, ReadVariable, ReadGroup, WriteVariable, WriteGroup}
+use Rattle.bsmp.specs.declared.Command.the-variants.{MaskVariable, MaskGroup, WriteRead, MakeGroup, RemoveGroups, ReadBlock, WriteBlock, RenewSum, RunFunction, Unknown}
 
 -- 01's list: the code of each step, from step 1 on
 abbrev pub stepCodes : List ℕ
@@ -38,6 +38,7 @@ ordered l gs busy m p = elim [
   | ListGroups ↦ (refl, refl)
   | ShowGroup ↦ (refl, refl)
   | ListCurves ↦ (refl, refl)
+  | ReadSum ↦ (refl, refl)
   | ListFunctions ↦ (refl, refl)
   | ReadVariable ↦ (refl, refl)
   | ReadGroup ↦ (refl, refl)
@@ -50,6 +51,7 @@ ordered l gs busy m p = elim [
   | RemoveGroups ↦ (refl, refl)
   | ReadBlock ↦ (refl, refl)
   | WriteBlock ↦ (refl, refl)
+  | RenewSum ↦ (refl, refl)
   | RunFunction ↦ (refl, refl)
   | Unknown ↦ (refl, refl)
 ]
@@ -91,6 +93,10 @@ pub store-order : (t : Table) (i : VariableNumber) (b : List ℕ) (s : State)
     → Behind (boardStore t i b s) (faults t s ++ storeTests (layout t) i b) (refuse s) (record { ending = silence; state = after (edit Replace (i ∷ []) (b ∷ [])) s })
 unfolding boardStore faults
 store-order t i b s = record { by-tests = first-append (faults t s) (storeTests (layout t) i b) (refuse s) _; in-order = (refl, refl) }
+
+pub fresh-order : (t : Table) (s : State) → Behind (freshBoard t s) (faults t s) (refuse s) (record { ending = silence; state = fresh (layout t) s })
+unfolding freshBoard faults
+fresh-order t s = record { by-tests = refl; in-order = (refl, refl) }
 
 pub reading-order : (vs : List Variable) (i : VariableNumber) (signed : Bool) (bs : List ℕ)
     → Behind (reading vs i signed bs) (readingTests vs i signed (length bs)) Reading.refused (is (numberOf signed (isBig (kindAt vs i)) bs))

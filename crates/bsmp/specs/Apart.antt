@@ -9,7 +9,7 @@ use lib.ListN.{length, take}
 use Rattle.bsmp.specs.Base.{some, first}
 use Rattle.bsmp.specs.Board.{Table, Layout, layout, State, valueOf, isSame, faults}
 use Rattle.bsmp.specs.Message.{Answer, Line, told, asked, judge}
-use Rattle.bsmp.specs.Packet.{Place, Ending, reply, silence, run, Result, isOwn, destination, message, placeTests, packetTests, packet, Ran, functionResult, boardStore}
+use Rattle.bsmp.specs.Packet.{Place, Ending, reply, silence, run, Result, isOwn, destination, message, placeTests, packetTests, packet, Ran, functionResult, boardStore, freshBoard}
 use Rattle.bsmp.specs.Store.{Lent, held, lentOf, bytesIn, Left, leaves}
 use Rattle.bsmp.specs.declared.VariableNumber.{VariableNumber}
 use Rattle.bsmp.specs.declared.FunctionNumber.{FunctionNumber}
@@ -23,18 +23,22 @@ pub record Alike (v : VariableNumber) (s₁ s₂ : State) : Type 0 where
   pub others : (i : VariableNumber) → i ≢ v → valueOf s₁ i ≡ valueOf s₂ i
   pub lengths : map length (s₁ .values) ≡ map length (s₂ .values)
   pub blocks : s₁ .blocks ≡ s₂ .blocks
+  pub sums : s₁ .sums ≡ s₂ .sums
   pub groups : s₁ .groups ≡ s₂ .groups
 
--- "packets, function results and board stores", each with its busy marks and the length of its reply buffer
+-- "packets, function results and board stores", each with its busy marks and the length of its reply buffer; and the sums worked out, as for a
+-- fresh board (02, 2026-02)
 pub data Event : Type 0 where
   arrives : (busy room : ℕ) → List ℕ → Event
   returns : (room : ℕ) → FunctionNumber → (due : Bool) → Ran → Event
   stores : VariableNumber → List ℕ → Event
+  freshens : Event
 
 abbrev pub happen : Table → Place → Event → State → Result
 happen t a (arrives busy room p) s = packet t a busy room p s
 happen t a (returns room f due r) s = functionResult t room f due r s
 happen t a (stores i b) s = boardStore t i b s
+happen t a freshens s = freshBoard t s
 
 -- "an answered, accepted packet reads that variable": taken off the definition's answer, no second reading of the packet
 abbrev pub tells : VariableNumber → Answer → Bool
@@ -55,6 +59,7 @@ reads t a v (arrives busy room p) s =
     (isOwn a (destination p) && readsIn (layout t) (s .groups) busy (message p) v)))
 reads t a v (returns room f due r) s = false
 reads t a v (stores i b) s = false
+reads t a v freshens s = false
 
 -- the answer's bytes
 abbrev pub answerOf : Ending → List ℕ
@@ -87,17 +92,20 @@ pub data Call : Type 0 where
   packetIn : (busy : ℕ) → (packet buffer : List ℕ) → Call
   resultIn : FunctionNumber → (due : Bool) → Ran → (buffer : List ℕ) → Call
   storeIn : VariableNumber → List ℕ → Call
+  freshIn : Call
 
 -- calls are alike if these are: of a reply buffer only its length counts
 abbrev pub eventOf : Call → Event
 eventOf (packetIn busy p b) = arrives busy (length b) p
 eventOf (resultIn f due r b) = returns (length b) f due r
 eventOf (storeIn i b) = stores i b
+eventOf freshIn = freshens
 
 abbrev pub bufferOf : Call → List ℕ
 bufferOf (packetIn busy p b) = b
 bufferOf (resultIn f due r b) = b
 bufferOf (storeIn i b) = []
+bufferOf freshIn = []
 
 abbrev pub leftBy : Table → Place → Call → Lent → Left
 leftBy t a c x = leaves (happen t a (eventOf c) (held (layout t) x)) (bufferOf c)
@@ -130,4 +138,5 @@ pub record LentAlike (l : Layout) (v : VariableNumber) (x₁ x₂ : Lent) : Type
   pub others : (i : VariableNumber) → i .0 < length (l .sizes) → i ≢ v → bytesIn l (x₁ .values) i ≡ bytesIn l (x₂ .values) i
   pub lengths : length (x₁ .values) ≡ length (x₂ .values)
   pub blocks : x₁ .blocks ≡ x₂ .blocks
+  pub sums : x₁ .sums ≡ x₂ .sums
   pub groups : x₁ .groups ≡ x₂ .groups

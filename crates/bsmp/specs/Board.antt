@@ -3,7 +3,8 @@ use mathlib.Core.Bool.{Bool, true, false, cond, not, _&&_}
 use mathlib.Core.List.{List, [], _∷_, map}
 use Prim.Native.Nat.{ℕ, _+_, _-_, _*_, _^_}
 use lib.Dec.{leb, ltb, eqb}
-use lib.ListN.{length, take, getD, replicate}
+use lib.ListN.{length, take, drop, getD, replicate}
+use Rattle.md5.specs.Md5.{digest}
 use Rattle.bsmp.specs.Base.{sum, upFrom, all, every, some, only, join, same, within, has, marksOf, Test, test}
 use Rattle.bsmp.specs.Codes.{kindOf}
 use Rattle.bsmp.specs.declared.VariableNumber.{VariableNumber}
@@ -72,27 +73,35 @@ layout t = record {
   functions = t .functions;
 }
 
--- what a board holds: the bytes of each variable, the bytes of each block (curve after curve), the made groups as marks -----
+-- what a board holds: the bytes of each variable, the bytes of each block (curve after curve), the made groups as marks; and by 02,
+-- 2026-02, the sum of each curve, which may be stale ----------------------------------------------------------------------
 pub record State : Type 0 where
   pub values : List (List ℕ)
   pub blocks : List (List ℕ)
+  pub sums : List (List ℕ)
   pub groups : List ℕ
 
--- the same board with other values, other blocks, other made groups
+-- the same board with other values, other blocks, other sums, other made groups
 abbrev pub withValues : State → List (List ℕ) → State
-withValues s vs = record { values = vs; blocks = s .blocks; groups = s .groups }
+withValues s vs = record { values = vs; blocks = s .blocks; sums = s .sums; groups = s .groups }
 
 abbrev pub withBlocks : State → List (List ℕ) → State
-withBlocks s bs = record { values = s .values; blocks = bs; groups = s .groups }
+withBlocks s bs = record { values = s .values; blocks = bs; sums = s .sums; groups = s .groups }
+
+abbrev pub withSums : State → List (List ℕ) → State
+withSums s ds = record { values = s .values; blocks = s .blocks; sums = ds; groups = s .groups }
 
 abbrev pub withGroups : State → List ℕ → State
-withGroups s gs = record { values = s .values; blocks = s .blocks; groups = gs }
+withGroups s gs = record { values = s .values; blocks = s .blocks; sums = s .sums; groups = gs }
 
 abbrev pub valueOf : State → VariableNumber → List ℕ
 valueOf s i = getD (s .values) (i .0) []
 
 abbrev pub blockOf : State → ℕ → List ℕ
 blockOf s k = getD (s .blocks) k []
+
+abbrev pub sumOf : State → CurveNumber → List ℕ
+sumOf s c = getD (s .sums) (c .0) []
 
 abbrev pub sizeOf : Layout → VariableNumber → ℕ
 sizeOf l i = getD (l .sizes) (i .0) 0
@@ -148,6 +157,18 @@ blockSizes cs = join (map (λ c. replicate (c .blocks) (c .size)) cs)
 abbrev pub blockPlace : Layout → CurveNumber → ℕ → ℕ
 blockPlace l c k = sum (map (λ x. x .blocks) (take (c .0) (l .curves))) + k
 
+-- the bytes of n blocks from place k on, block after block
+abbrev pub contentOf : State → (place count : ℕ) → List ℕ
+contentOf s k n = join (take n (drop k (s .blocks)))
+
+-- 02, 2026-02: "MD5 by RFC 1321 over the whole curve"
+abbrev pub curveSum : Layout → State → CurveNumber → List ℕ
+curveSum l s c = digest (contentOf s (blockPlace l c 0) (curveOf l c .blocks))
+
+-- 02, 2026-02: "a fresh board works it out"
+unfoldable pub fresh : Layout → State → State
+fresh l s = withSums s (map (λ c. curveSum l s (curve c)) (upFrom 0 (length (l .curves))))
+
 abbrev pub functionOf : Layout → FunctionNumber → Function
 functionOf l f = getD (l .functions) (f .0) blankFunction
 
@@ -198,12 +219,20 @@ wholeValues t s = same (map length (s .values)) (sizesOf (t .variables))
 unfoldable pub wholeCurves : Table → State → Bool
 wholeCurves t s = same (map length (s .blocks)) (blockSizes (t .curves))
 
+-- 02, 2026-02: "answer 0B with 16 bytes"; any are sound
+abbrev pub sumSizes : List Curve → List ℕ
+sumSizes cs = map (λ c. 16) cs
+
+unfoldable pub wholeSums : Table → State → Bool
+wholeSums t s = same (map length (s .sums)) (sumSizes (t .curves))
+
 abbrev pub rules : Table → State → List Bool
 rules t s =
     usableVariables (t .variables)
     ∷ wholeValues t s
     ∷ usableCurves (t .curves)
     ∷ wholeCurves t s
+    ∷ wholeSums t s
     ∷ usableFunctions (t .functions)
     ∷ usableGroups (length (t .variables)) (s .groups)
     ∷ []

@@ -4,8 +4,8 @@ use mathlib.Core.List.{List, [], _∷_}
 use Prim.Native.Nat.{ℕ}
 use lib.Dec.{eqb}
 use Rattle.bsmp.specs.declared.Command.{Command}
-use Rattle.bsmp.specs.declared.Command.the-variants.{Version, ListVariables, ListGroups, ShowGroup, ListCurves, ListFunctions, ReadVariable, ReadGroup, WriteVariable, WriteGroup}
-use Rattle.bsmp.specs.declared.Command.the-variants.{MaskVariable, MaskGroup, WriteRead, MakeGroup, RemoveGroups, ReadBlock, WriteBlock, RunFunction, Unknown}
+use Rattle.bsmp.specs.declared.Command.the-variants.{Version, ListVariables, ListGroups, ShowGroup, ListCurves, ReadSum, ListFunctions, ReadVariable, ReadGroup, WriteVariable, WriteGroup}
+use Rattle.bsmp.specs.declared.Command.the-variants.{MaskVariable, MaskGroup, WriteRead, MakeGroup, RemoveGroups, ReadBlock, WriteBlock, RenewSum, RunFunction, Unknown}
 use Rattle.bsmp.specs.declared.Operation.{Operation}
 use Rattle.bsmp.specs.declared.Operation.the-variants.{Replace, TurnOn, TurnOff, Invert, KeepOnly, Other}
 use Rattle.bsmp.specs.declared.Kind.{Kind}
@@ -21,14 +21,14 @@ abbrev pub coded : {A : Type 0} → List (ℕ × A) → A → ℕ → A
 coded [] other n = other
 coded (x ∷ xs) other n = cond (eqb n (x .0)) (x .1) (coded xs other n)
 
--- "The command codes are these and no others"
+-- "The command codes are these and no others", with 02's 0A and 42 (2026-02)
 abbrev pub commands : List (ℕ × Command)
 commands =
-    (0x00, Version) ∷ (0x02, ListVariables) ∷ (0x04, ListGroups) ∷ (0x06, ShowGroup) ∷ (0x08, ListCurves) ∷ (0x0C, ListFunctions)
+    (0x00, Version) ∷ (0x02, ListVariables) ∷ (0x04, ListGroups) ∷ (0x06, ShowGroup) ∷ (0x08, ListCurves) ∷ (0x0A, ReadSum) ∷ (0x0C, ListFunctions)
     ∷ (0x10, ReadVariable) ∷ (0x12, ReadGroup)
     ∷ (0x20, WriteVariable) ∷ (0x22, WriteGroup) ∷ (0x24, MaskVariable) ∷ (0x26, MaskGroup) ∷ (0x28, WriteRead)
     ∷ (0x30, MakeGroup) ∷ (0x32, RemoveGroups)
-    ∷ (0x40, ReadBlock) ∷ (0x41, WriteBlock)
+    ∷ (0x40, ReadBlock) ∷ (0x41, WriteBlock) ∷ (0x42, RenewSum)
     ∷ (0x50, RunFunction)
     ∷ []
 

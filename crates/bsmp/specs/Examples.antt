@@ -26,11 +26,12 @@ tableA = record {
 abbrev pub placeA : Place
 placeA = record { own = 5; multicast = 0x81 }
 
--- "FF FF FF FD; 5A; 34 12; zero bytes. No made groups": board A with this byte in variable 1
+-- "FF FF FF FD; 5A; 34 12; zero bytes. No made groups": board A with this byte in variable 1, and fresh (law `fresh-A`)
 abbrev pub stateA : ℕ → State
 stateA one = record {
   values = hex 4 0xFF_FF_FF_FD ∷ hex 1 one ∷ hex 2 0x34_12 ∷ [];
   blocks = hex 4 0 ∷ hex 4 0 ∷ [];
+  sums = hex 16 0x7DEA362B3FAC8E00956A4952A3D4F474 ∷ [];
   groups = [];
 }
 

@@ -8,7 +8,8 @@ use lib.Bits.{bitAnd, bitOr, bitXor}
 use lib.ListN.{length, drop, set, getD}
 use Rattle.bsmp.specs.Base.{upFrom, some, join, cut, ascending, within, bit, byteAt, wordAt, word, Test, test, first}
 use Rattle.bsmp.specs.Codes.{commandOf, operationOf, noOperation, errorCode}
-use Rattle.bsmp.specs.Board.{variable, group, curve, function, Layout, State, withValues, withBlocks, withGroups, blockOf, isWritable, sizeOf, marked}
+use Rattle.md5.specs.Md5.{digest}
+use Rattle.bsmp.specs.Board.{variable, group, curve, function, Layout, State, withValues, withBlocks, withSums, withGroups, blockOf, sumOf, contentOf, isWritable, sizeOf, marked}
 use Rattle.bsmp.specs.Board.{members, groupBytes, writableGroup, groupCount, setOf, curveOf, blockPlace, functionOf}
 use Rattle.bsmp.specs.declared.VariableNumber.{VariableNumber}
 use Rattle.bsmp.specs.declared.GroupNumber.{GroupNumber}
@@ -16,8 +17,8 @@ use Rattle.bsmp.specs.declared.CurveNumber.{CurveNumber}
 use Rattle.bsmp.specs.declared.FunctionNumber.{FunctionNumber}
 use Rattle.bsmp.specs.declared.Curve.{Curve}
 use Rattle.bsmp.specs.declared.Command.{Command}
-use Rattle.bsmp.specs.declared.Command.the-variants.{Version, ListVariables, ListGroups, ShowGroup, ListCurves, ListFunctions, ReadVariable, ReadGroup, WriteVariable, WriteGroup}
-use Rattle.bsmp.specs.declared.Command.the-variants.{MaskVariable, MaskGroup, WriteRead, MakeGroup, RemoveGroups, ReadBlock, WriteBlock, RunFunction, Unknown}
+use Rattle.bsmp.specs.declared.Command.the-variants.{Version, ListVariables, ListGroups, ShowGroup, ListCurves, ReadSum, ListFunctions, ReadVariable, ReadGroup, WriteVariable, WriteGroup}
+use Rattle.bsmp.specs.declared.Command.the-variants.{MaskVariable, MaskGroup, WriteRead, MakeGroup, RemoveGroups, ReadBlock, WriteBlock, RenewSum, RunFunction, Unknown}
 use Rattle.bsmp.specs.declared.Operation.{Operation}
 use Rattle.bsmp.specs.declared.Operation.the-variants.{Replace, TurnOn, TurnOff, Invert, KeepOnly, Other}
 use Rattle.bsmp.specs.declared.WireError.{WireError}
@@ -32,6 +33,8 @@ pub data Change : Type 0 where
   edit : Operation → List VariableNumber → List (List ℕ) → Change
   -- the block at this place gets these first bytes
   fill : ℕ → List ℕ → Change
+  -- the sum of this curve, whose blocks begin at this place and are so many, is worked out anew
+  renew : CurveNumber → (place count : ℕ) → Change
   -- these are the made groups from now on
   regroup : List ℕ → Change
 
@@ -42,6 +45,8 @@ pub data Answer : Type 0 where
   tell : ℕ → List VariableNumber → Answer
   -- code, a beginning, and the block at this place
   show : ℕ → List ℕ → ℕ → Answer
+  -- code, and the sum of this curve
+  attest : ℕ → CurveNumber → Answer
   -- function and input
   call : FunctionNumber → List ℕ → Answer
 
@@ -124,6 +129,10 @@ writesGroup l gs p n =
     ∷ readOnly (not (writableGroup l gs (groupAt p 0)))
     ∷ []
 
+-- 02, 2026-02: "E5 then E3"
+abbrev pub namesCurve : Layout → List ℕ → List (Test WireError)
+namesCurve l p = badFront (size≠ p 1) ∷ missing (noCurve l (curveAt p 0)) ∷ []
+
 abbrev pub blockMissing : Layout → List ℕ → Bool
 blockMissing l p = not (ltb (wordAt p 1) (curveOf l (curveAt p 0) .blocks))
 
@@ -161,12 +170,14 @@ abbrev pub written : Change → List VariableNumber
 written nothing = []
 written (edit op is ps) = is
 written (fill k d) = []
+written (renew c k n) = []
 written (regroup gs) = []
 
 abbrev pub told : Answer → List VariableNumber
 told (say c p) = []
 told (tell c is) = is
 told (show c front k) = []
+told (attest c n) = []
 told (call f i) = []
 
 abbrev pub touched : Line → List VariableNumber
@@ -210,6 +221,7 @@ module _ (l : Layout) (gs : List ℕ) (p : List ℕ) where
   line ListGroups = asks p (say 0x05 (groupList l gs))
   line ShowGroup = looks (badFront (size≠ p 1) ∷ missing (noGroup gs (groupAt p 0)) ∷ []) (say 0x07 (map (λ i. i .0) groupMembers))
   line ListCurves = asks p (say 0x09 (curveList l))
+  line ReadSum = looks (namesCurve l p) (attest 0x0B (curveAt p 0))
   line ListFunctions = asks p (say 0x0D (functionList l))
   line ReadVariable = looks (badFront (size≠ p 1) ∷ missing (noVariable l (variableAt p 0)) ∷ []) (tell 0x11 (variableAt p 0 ∷ []))
   line ReadGroup = looks (badFront (size≠ p 1) ∷ missing (noGroup gs (groupAt p 0)) ∷ []) (tell 0x13 groupMembers)
@@ -243,6 +255,7 @@ module _ (l : Layout) (gs : List ℕ) (p : List ℕ) where
       ∷ badRest (not (within 1 (curveOf l (curveAt p 0) .size) (length p - 3)))
       ∷ readOnly (not (isWritable (curveOf l (curveAt p 0) .writable))) ∷ [])
       (fill (blockPlace l (curveAt p 0) (wordAt p 1)) (drop 3 p))
+  line RenewSum = does (namesCurve l p) (renew (curveAt p 0) (blockPlace l (curveAt p 0) 0) (curveOf l (curveAt p 0) .blocks))
   line RunFunction =
       looks (badFront (size< p 1) ∷ missing (noFunction l (functionAt p 0)) ∷ badRest (size≠ p (1 + functionOf l (functionAt p 0) .input)) ∷ [])
       (call (functionAt p 0) (drop 1 p))
@@ -289,7 +302,7 @@ edited op [] ps vs = vs
 edited op (i ∷ is) [] vs = vs
 edited op (i ∷ is) (p ∷ ps) vs = edited op is ps (set vs (i .0) (changed op (getD vs (i .0) []) p))
 
--- "a block write replaces as many of its first bytes as it carries"
+-- "a block write replaces as many of its first bytes as it carries", and by 02, 2026-02, "leaves [its curve's sum] stale"
 abbrev pub filled : List ℕ → List ℕ → List ℕ
 filled d block = d ++ drop (length d) block
 
@@ -297,6 +310,7 @@ unfoldable pub after : Change → State → State
 after nothing s = s
 after (edit op is ps) s = withValues s (edited op is ps (s .values))
 after (fill k d) s = withBlocks s (set (s .blocks) k (filled d (blockOf s k)))
+after (renew c k n) s = withSums s (set (s .sums) (c .0) (digest (contentOf s k n)))
 after (regroup gs) s = withGroups s gs
 
 -- the values of these variables, one after another
@@ -312,6 +326,7 @@ unfoldable pub spoken : Answer → State → Said
 spoken (say c p) s = replies c p
 spoken (tell c is) s = replies c (valuesOf (s .values) is)
 spoken (show c front k) s = replies c (front ++ blockOf s k)
+spoken (attest c n) s = replies c (sumOf s n)
 spoken (call f i) s = runs f i
 
 -- a message whose check gave v: the state after it ("an error changes values, curves and groups in no byte") ..

@@ -3,25 +3,32 @@ use mathlib.Core.List.{List, _++_}
 use Prim.Native.Nat.{ℕ}
 use lib.ListN.{length, take, drop}
 use Rattle.bsmp.specs.Base.{sum, cut, join}
-use Rattle.bsmp.specs.Board.{Layout, State, sizeOf, blockSizes}
+use Rattle.bsmp.specs.Board.{Layout, State, sizeOf, blockSizes, sumSizes}
 use Rattle.bsmp.specs.Packet.{Ending, reply, silence, run, Result}
 use Rattle.bsmp.specs.declared.VariableNumber.{VariableNumber}
 use Rattle.bsmp.specs.declared.Outcome.{Outcome}
 use Rattle.bsmp.specs.declared.Outcome.the-variants.{Reply, Silence, Run, Refused}
 
--- the two stores and the made groups
+-- the two stores, the sums (02, 2026-02) and the made groups
 pub record Lent : Type 0 where
   pub values : List ℕ
   pub blocks : List ℕ
+  pub sums : List ℕ
   pub groups : List ℕ
 
--- "the bytes of one variable start where those before it end. Curves stand likewise in a second store, block after block"
+-- "the bytes of one variable start where those before it end. Curves stand likewise in a second store, block after block", and their sums
+-- in a third, curve after curve
 abbrev pub held : Layout → Lent → State
-held l x = record { values = cut (l .sizes) (x .values); blocks = cut (blockSizes (l .curves)) (x .blocks); groups = x .groups }
+held l x = record {
+  values = cut (l .sizes) (x .values);
+  blocks = cut (blockSizes (l .curves)) (x .blocks);
+  sums = cut (sumSizes (l .curves)) (x .sums);
+  groups = x .groups;
+}
 
 -- and the stores that hold a state
 abbrev pub lentOf : State → Lent
-lentOf s = record { values = join (s .values); blocks = join (s .blocks); groups = s .groups }
+lentOf s = record { values = join (s .values); blocks = join (s .blocks); sums = join (s .sums); groups = s .groups }
 
 -- where number i starts, for pieces of these lengths; and a variable's bytes in the store
 abbrev pub start : List ℕ → ℕ → ℕ

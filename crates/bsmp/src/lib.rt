@@ -140,6 +140,7 @@ pub enum Command {
     ListGroups,
     ShowGroup,
     ListCurves,
+    ReadSum,
     ListFunctions,
     ReadVariable,
     ReadGroup,
@@ -152,6 +153,7 @@ pub enum Command {
     RemoveGroups,
     ReadBlock,
     WriteBlock,
+    RenewSum,
     RunFunction,
     Unknown,
 }
@@ -166,6 +168,8 @@ impl Command {
     pub const SHOW_GROUP: u8 = 0x06;
 
     pub const LIST_CURVES: u8 = 0x08;
+
+    pub const READ_SUM: u8 = 0x0A;
 
     pub const LIST_FUNCTIONS: u8 = 0x0C;
 
@@ -191,6 +195,8 @@ impl Command {
 
     pub const WRITE_BLOCK: u8 = 0x41;
 
+    pub const RENEW_SUM: u8 = 0x42;
+
     pub const RUN_FUNCTION: u8 = 0x50;
 
     pub fn of(code: u8) -> Command
@@ -202,6 +208,7 @@ impl Command {
             Command::LIST_GROUPS => Command::ListGroups,
             Command::SHOW_GROUP => Command::ShowGroup,
             Command::LIST_CURVES => Command::ListCurves,
+            Command::READ_SUM => Command::ReadSum,
             Command::LIST_FUNCTIONS => Command::ListFunctions,
             Command::READ_VARIABLE => Command::ReadVariable,
             Command::READ_GROUP => Command::ReadGroup,
@@ -214,6 +221,7 @@ impl Command {
             Command::REMOVE_GROUPS => Command::RemoveGroups,
             Command::READ_BLOCK => Command::ReadBlock,
             Command::WRITE_BLOCK => Command::WriteBlock,
+            Command::RENEW_SUM => Command::RenewSum,
             Command::RUN_FUNCTION => Command::RunFunction,
             _ => Command::Unknown,
         }

@@ -10,8 +10,8 @@ use Rattle.bsmp.specs.Codes.{commandOf}
 use Rattle.bsmp.specs.Message.{curveList, functionList, Line, testsOf, line, check, formTests, judge, asked, carried, handled}
 use Rattle.bsmp.specs.Store.{Lent, held}
 use Rattle.bsmp.specs.declared.Command.{Command}
-use Rattle.bsmp.specs.declared.Command.the-variants.{Version, ListVariables, ListGroups, ShowGroup, ListCurves, ListFunctions, ReadVariable, ReadGroup, WriteVariable, WriteGroup}
-use Rattle.bsmp.specs.declared.Command.the-variants.{MaskVariable, MaskGroup, WriteRead, MakeGroup, RemoveGroups, ReadBlock, WriteBlock, RunFunction, Unknown}
+use Rattle.bsmp.specs.declared.Command.the-variants.{Version, ListVariables, ListGroups, ShowGroup, ListCurves, ReadSum, ListFunctions, ReadVariable, ReadGroup, WriteVariable, WriteGroup}
+use Rattle.bsmp.specs.declared.Command.the-variants.{MaskVariable, MaskGroup, WriteRead, MakeGroup, RemoveGroups, ReadBlock, WriteBlock, RenewSum, RunFunction, Unknown}
 use Rattle.bsmp.specs.declared.Check.the-variants.{Pass, Fail}
 use Rattle.records.specs.Lending.{writableMarks}
 use Rattle.judging.specs.Judging.{lentLayout, SoundBoard}
@@ -47,6 +47,7 @@ module _ (ns cs fs gs : List ℕ) (w w′ : ℕ) where
   line-same p ListGroups e = absurd (true≢false e)
   line-same p ShowGroup e = absurd (true≢false e)
   line-same p ListCurves e = refl
+  line-same p ReadSum e = refl
   line-same p ListFunctions e = refl
   line-same p ReadVariable e = refl
   line-same p ReadGroup e = absurd (true≢false e)
@@ -59,6 +60,7 @@ module _ (ns cs fs gs : List ℕ) (w w′ : ℕ) where
   line-same p RemoveGroups e = refl
   line-same p ReadBlock e = refl
   line-same p WriteBlock e = refl
+  line-same p RenewSum e = refl
   line-same p RunFunction e = refl
   line-same p Unknown e = refl
 

@@ -10,8 +10,8 @@ use Rattle.bsmp.specs.Codes.{commandOf}
 use Rattle.bsmp.specs.Message.{line, asked, said, spoken, stateAfter, handled}
 use Rattle.bsmp.specs.Store.{Lent, held}
 use Rattle.bsmp.specs.declared.Command.{Command}
-use Rattle.bsmp.specs.declared.Command.the-variants.{Version, ListVariables, ListGroups, ShowGroup, ListCurves, ListFunctions, ReadVariable, ReadGroup, WriteVariable, WriteGroup}
-use Rattle.bsmp.specs.declared.Command.the-variants.{MaskVariable, MaskGroup, WriteRead, MakeGroup, RemoveGroups, ReadBlock, WriteBlock, RunFunction, Unknown}
+use Rattle.bsmp.specs.declared.Command.the-variants.{Version, ListVariables, ListGroups, ShowGroup, ListCurves, ReadSum, ListFunctions, ReadVariable, ReadGroup, WriteVariable, WriteGroup}
+use Rattle.bsmp.specs.declared.Command.the-variants.{MaskVariable, MaskGroup, WriteRead, MakeGroup, RemoveGroups, ReadBlock, WriteBlock, RenewSum, RunFunction, Unknown}
 use Rattle.bsmp.specs.declared.Check.{Check}
 use Rattle.bsmp.specs.declared.Check.the-variants.{Pass}
 use Rattle.records.specs.Lending.{writableMarks}
@@ -29,6 +29,7 @@ looksAtTypes ListVariables = true
 looksAtTypes ListGroups = true
 looksAtTypes ShowGroup = true
 looksAtTypes ListCurves = false
+looksAtTypes ReadSum = false
 looksAtTypes ListFunctions = false
 looksAtTypes ReadVariable = false
 looksAtTypes ReadGroup = true
@@ -41,6 +42,7 @@ looksAtTypes MakeGroup = false
 looksAtTypes RemoveGroups = false
 looksAtTypes ReadBlock = false
 looksAtTypes WriteBlock = false
+looksAtTypes RenewSum = false
 looksAtTypes RunFunction = false
 looksAtTypes Unknown = false
 

@@ -13,5 +13,5 @@ of-spec =
     (λ c. simp (c .match .keys1)) (λ c. simp (c .match .keys2)) (λ c. simp (c .match .keys3)) (λ c. simp (c .match .keys4)) (λ c. simp (c .match .keys5))
     (λ c. simp (c .match .keys6)) (λ c. simp (c .match .keys7)) (λ c. simp (c .match .keys8)) (λ c. simp (c .match .keys9)) (λ c. simp (c .match .keys10))
     (λ c. simp (c .match .keys11)) (λ c. simp (c .match .keys12)) (λ c. simp (c .match .keys13)) (λ c. simp (c .match .keys14)) (λ c. simp (c .match .keys15))
-    (λ c. simp (c .match .keys16)) (λ c. simp (c .match .keys17)) (λ c. simp (c .match .keys18))
+    (λ c. simp (c .match .keys16)) (λ c. simp (c .match .keys17)) (λ c. simp (c .match .keys18)) (λ c. simp (c .match .keys19)) (λ c. simp (c .match .keys20))
     (λ c. coded-other Unknown _ commands _ (c .match .rest)))
