@@ -2,6 +2,7 @@
 use bsmp::Outcome;
 use records::Groups;
 use records::Records;
+use results::Stored;
 ghost use mathlib.Core.Path.{_≡_};
 ghost use Prim.Native.Nat.{_+_, _*_, _≤_, _<_};
 ghost use lib.ListN.{length};
@@ -44,6 +45,7 @@ fn answered(
     packet: &[u8],
     values: &mut [u8],
     blocks: &mut [u8],
+    sums: &mut [u8],
     reply: &mut [u8],
 ) -> Ended {
     let records = variables();
@@ -67,6 +69,7 @@ fn answered(
         0,
         values,
         blocks,
+        sums,
         packet,
         reply,
     );
@@ -78,6 +81,36 @@ fn answered(
     Ended { outcome, groups }
 }
 
+// Board A's sums, before the first packet.
+fn fresh(values: &[u8], blocks: &[u8], sums: &mut [u8]) {
+    let records = variables();
+    let writable = records.writable;
+    let sizes = records.sizes;
+    let kinds = records.kinds;
+    let curves = [1u32, 4, 2];
+    let functions = [1u8, 2];
+    let sets = [0u64; 5];
+    let started = results::fresh_board(
+        records.count,
+        &writable,
+        &sizes,
+        &kinds,
+        &curves,
+        &functions,
+        0,
+        &sets,
+        values,
+        blocks,
+        sums,
+    );
+    match started {
+        Stored::Done => {}
+        Stored::Refused(_) => {
+            io::write_all(2, b"bench: its board is refused\n");
+        }
+    }
+}
+
 // One packet's line at the start of out.
 fn one(
     number: u64,
@@ -85,13 +118,14 @@ fn one(
     packet: &[u8],
     values: &mut [u8],
     blocks: &mut [u8],
+    sums: &mut [u8],
     reply: &mut [u8],
     out: &mut [u8],
 ) -> Turned
     requires { ⌜ (length (now reply) ≡ 4104) × (9000 ≤ length (now out)) ⌝ }
     ensures { λ r. ⌜ r .size ≤ 9000 ⌝ }
 {
-    let d = answered(groups, packet, values, blocks, reply);
+    let d = answered(groups, packet, values, blocks, sums, reply);
     let o = d.outcome;
     let a = bench_line::put_line(number, o, packet, reply, out);
     let g = d.groups;
@@ -150,6 +184,7 @@ fn step(
     p: Place,
     values: &mut [u8],
     blocks: &mut [u8],
+    sums: &mut [u8],
     reply: &mut [u8],
     out: &mut [u8],
 ) -> Place
@@ -167,6 +202,7 @@ fn step(
         &buf[from..next],
         values,
         blocks,
+        sums,
         reply,
         &mut out[to..],
     );
@@ -187,6 +223,7 @@ fn drain(
     groups: Groups,
     values: &mut [u8],
     blocks: &mut [u8],
+    sums: &mut [u8],
     reply: &mut [u8],
     out: &mut [u8],
 ) -> Place
@@ -201,7 +238,7 @@ fn drain(
     };
     let mut size = whole(buf, 0, have);
     while 2 <= size {
-        p = step(buf, size, p, values, blocks, reply, out);
+        p = step(buf, size, p, values, blocks, sums, reply, out);
         let at = p.at;
         size = whole(buf, at, have);
     }
@@ -255,6 +292,7 @@ fn turn(
     groups: Groups,
     values: &mut [u8],
     blocks: &mut [u8],
+    sums: &mut [u8],
     reply: &mut [u8],
     out: &mut [u8],
 ) -> Next
@@ -274,7 +312,7 @@ fn turn(
         };
     }
     let all = have + n;
-    let p = drain(buf, all, number, groups, values, blocks, reply, out);
+    let p = drain(buf, all, number, groups, values, blocks, sums, reply, out);
     let at = p.at;
     shift(buf, at, all);
     let g = p.groups;
@@ -287,7 +325,14 @@ fn turn(
 }
 
 // Each turn reads a byte or more, and no input has 2^64.
-fn run(buf: &mut [u8], values: &mut [u8], blocks: &mut [u8], reply: &mut [u8], out: &mut [u8])
+fn run(
+    buf: &mut [u8],
+    values: &mut [u8],
+    blocks: &mut [u8],
+    sums: &mut [u8],
+    reply: &mut [u8],
+    out: &mut [u8],
+)
     requires { ⌜ (length (now reply) ≡ 4104) × (9000 ≤ length (now out)) ⌝ }
 {
     let mut groups = Groups {
@@ -299,7 +344,7 @@ fn run(buf: &mut [u8], values: &mut [u8], blocks: &mut [u8], reply: &mut [u8], o
     let mut turns = u64::MAX;
     let mut go = true;
     while 0 < turns && go {
-        let r = turn(buf, have, number, groups, values, blocks, reply, out);
+        let r = turn(buf, have, number, groups, values, blocks, sums, reply, out);
         have = r.have;
         number = r.number;
         groups = r.groups;
@@ -312,7 +357,16 @@ fn main() {
     let mut buf = [0u8; 131072];
     let mut values = [0xFFu8, 0xFF, 0xFF, 0xFD, 0x5A, 0x34, 0x12];
     let mut blocks = [0u8; 8];
+    let mut sums = [0u8; 16];
     let mut reply = [0u8; 4104];
     let mut out = [0u8; 131072];
-    run(&mut buf, &mut values, &mut blocks, &mut reply, &mut out);
+    fresh(&values, &blocks, &mut sums);
+    run(
+        &mut buf,
+        &mut values,
+        &mut blocks,
+        &mut sums,
+        &mut reply,
+        &mut out,
+    );
 }

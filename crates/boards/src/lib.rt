@@ -1,4 +1,4 @@
-// Refusal 1 for the whole board: its records, the lengths of its stores, its groups.
+// Refusal 1 for the whole board: its records, the lengths of its stores and its sums, its groups.
 use bsmp::Variable;
 ghost use mathlib.Core.Path.{_≡_};
 ghost use mathlib.Core.Bool.{_&&_};
@@ -114,11 +114,12 @@ pub fn usable_board(
     sets: &[u64; 5],
     values: &[u8],
     blocks: &[u8],
+    sums: &[u8],
 ) -> bool
     ensures { λ r. let records = recordsBy count (now (writable .entry)) (now (sizes .entry)) (now (kinds .entry)) in
         let t = tableOf records (now (curves .entry)) (now (functions .entry)) in
         let groups = groupsOf (groupsBy made (now (sets .entry))) in
-        ⌜ r ≡ usable t (held (layout t) (lent (now (values .entry)) (now (blocks .entry)) groups)) ⌝ }
+        ⌜ r ≡ usable t (held (layout t) (lent (now (values .entry)) (now (blocks .entry)) (now (sums .entry)) groups)) ⌝ }
 {
     let variables_total = rules::usable_records(count, writable, sizes, kinds);
     if !variables_total.usable {
@@ -132,6 +133,9 @@ pub fn usable_board(
         return false;
     }
     if curves_total.bytes as usize != blocks.len() {
+        return false;
+    }
+    if 16 * records::curve_count(curves) != sums.len() {
         return false;
     }
     if !rules::usable_functions(functions) {
@@ -152,11 +156,12 @@ pub fn quick_board(
     sets: &[u64; 5],
     values: &[u8],
     blocks: &[u8],
+    sums: &[u8],
 ) -> bool
     ensures { λ r. let records = recordsBy count (now (writable .entry)) (now (sizes .entry)) (now (kinds .entry)) in
         let t = tableOf records (now (curves .entry)) (now (functions .entry)) in
         let groups = groupsOf (groupsBy made (now (sets .entry))) in
-        ⌜ r ≡ usable t (held (layout t) (lent (now (values .entry)) (now (blocks .entry)) groups)) ⌝ }
+        ⌜ r ≡ usable t (held (layout t) (lent (now (values .entry)) (now (blocks .entry)) (now (sums .entry)) groups)) ⌝ }
 {
     if !quick_variables(count, writable, sizes, kinds, values.len()) {
         return false;
@@ -166,6 +171,9 @@ pub fn quick_board(
         return false;
     }
     if curves_total.bytes as usize != blocks.len() {
+        return false;
+    }
+    if 16 * records::curve_count(curves) != sums.len() {
         return false;
     }
     if !rules::usable_groups(made, sets, count) {

@@ -2,14 +2,16 @@
 use bsmp::Variable;
 use plain::PlainOutcome;
 use plain::PlainSignedReading;
+use plain::PlainSum;
 use plain::PlainUnsignedReading;
 use records::Groups;
 ghost use mathlib.Core.Path.{_≡_};
 ghost use mathlib.Core.Bool.{true, false};
 ghost use lib.IntN.{pos};
+ghost use Rattle.md5.specs.Md5.{digest};
 ghost use Rattle.plain.specs.Lending.{lending};
 ghost use Rattle.plain.specs.Numbers.{signedSays, unsignedSays};
-ghost use Rattle.plain.specs.Calls.{plainPacketLeft, packetOf, plainResultLeft, resultOf, plainBytesLeft, storeOf, writingOf, readingOf};
+ghost use Rattle.plain.specs.Calls.{plainPacketLeft, packetOf, plainResultLeft, resultOf, plainBytesLeft, storeOf, freshOf, writingOf, readingOf};
 
 #[no_mangle]
 pub extern "C" fn bsmp_packet(
@@ -22,12 +24,13 @@ pub extern "C" fn bsmp_packet(
     busy: u64,
     values: &mut [u8],
     blocks: &mut [u8],
+    sums: &mut [u8],
     request: &[u8],
     reply: &mut [u8],
 ) -> PlainOutcome
     ensures { λ r. let board = lending (now (variables .entry)) (now (curves .entry)) (now (functions .entry))
-        (now (groups .entry)) (now (values .entry)) (now (blocks .entry)) in
-        ⌜ plainPacketLeft r (now (groups .exit)) (now (reply .exit)) (now (values .exit)) (now (blocks .exit))
+        (now (groups .entry)) (now (values .entry)) (now (blocks .entry)) (now (sums .entry)) in
+        ⌜ plainPacketLeft r (now (groups .exit)) (now (reply .exit)) (now (values .exit)) (now (blocks .exit)) (now (sums .exit))
         ≡ packetOf board own multicast busy (now (request .entry)) (now (reply .entry)) ⌝ }
 {
     let mut writable = [0u8; 64];
@@ -49,6 +52,7 @@ pub extern "C" fn bsmp_packet(
         busy,
         values,
         blocks,
+        sums,
         request,
         reply,
     );
@@ -64,6 +68,7 @@ pub extern "C" fn bsmp_function_result(
     groups: &Groups,
     values: &[u8],
     blocks: &[u8],
+    sums: &[u8],
     function: usize,
     due: bool,
     failed: bool,
@@ -72,7 +77,7 @@ pub extern "C" fn bsmp_function_result(
     reply: &mut [u8],
 ) -> PlainOutcome
     ensures { λ r. let board = lending (now (variables .entry)) (now (curves .entry)) (now (functions .entry))
-        (now (groups .entry)) (now (values .entry)) (now (blocks .entry)) in
+        (now (groups .entry)) (now (values .entry)) (now (blocks .entry)) (now (sums .entry)) in
         ⌜ plainResultLeft r (now (reply .exit)) ≡ resultOf board function due failed error (now (output .entry)) (now (reply .entry)) ⌝ }
 {
     let mut writable = [0u8; 64];
@@ -91,6 +96,7 @@ pub extern "C" fn bsmp_function_result(
         &groups.sets,
         values,
         blocks,
+        sums,
         function,
         due,
         failed,
@@ -108,11 +114,12 @@ pub extern "C" fn bsmp_board_store(
     groups: &Groups,
     values: &mut [u8],
     blocks: &[u8],
+    sums: &[u8],
     variable: usize,
     bytes: &[u8],
 ) -> u8
     ensures { λ r. let board = lending (now (variables .entry)) (now (curves .entry)) (now (functions .entry))
-        (now (groups .entry)) (now (values .entry)) (now (blocks .entry)) in
+        (now (groups .entry)) (now (values .entry)) (now (blocks .entry)) (now (sums .entry)) in
         ⌜ plainBytesLeft r (now (values .exit)) ≡ storeOf board variable (now (bytes .entry)) ⌝ }
 {
     let mut writable = [0u8; 64];
@@ -131,8 +138,43 @@ pub extern "C" fn bsmp_board_store(
         &groups.sets,
         values,
         blocks,
+        sums,
         variable,
         bytes,
+    )
+}
+
+#[no_mangle]
+pub extern "C" fn bsmp_fresh_board(
+    variables: &[Variable],
+    curves: &[u32],
+    functions: &[u8],
+    groups: &Groups,
+    values: &[u8],
+    blocks: &[u8],
+    sums: &mut [u8],
+) -> u8
+    ensures { λ r. let board = lending (now (variables .entry)) (now (curves .entry)) (now (functions .entry))
+        (now (groups .entry)) (now (values .entry)) (now (blocks .entry)) (now (sums .entry)) in
+        ⌜ plainBytesLeft r (now (sums .exit)) ≡ freshOf board ⌝ }
+{
+    let mut writable = [0u8; 64];
+    let mut sizes = [0u8; 64];
+    let mut kinds = [0u8; 64];
+    let count = columns::take(variables, &mut writable, &mut sizes, &mut kinds);
+    let made = groups.count;
+    plain::fresh_board(
+        count,
+        &writable,
+        &sizes,
+        &kinds,
+        curves,
+        functions,
+        made,
+        &groups.sets,
+        values,
+        blocks,
+        sums,
     )
 }
 
@@ -196,4 +238,11 @@ pub extern "C" fn bsmp_write_unsigned(
     let mut kinds = [0u8; 64];
     let count = columns::take(variables, &mut writable, &mut sizes, &mut kinds);
     plain::write_unsigned(count, &writable, &sizes, &kinds, variable, number, buffer)
+}
+
+#[no_mangle]
+pub extern "C" fn bsmp_md5(message: &[u8]) -> PlainSum
+    ensures { λ r. ⌜ r .bytes ≡ digest (now (message .entry)) ⌝ }
+{
+    plain::md5(message)
 }

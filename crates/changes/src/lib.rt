@@ -1,4 +1,4 @@
-// What a command that passed its tests changes in the two stores, and what it makes of the made groups.
+// What a command that passed its tests changes in the stores and the sums, and what it makes of the made groups.
 use bsmp::Command;
 use bsmp::Operation;
 ghost use mathlib.Core.Path.{_≡_};
@@ -50,7 +50,7 @@ fn change_variable(
     Regroup::Keep
 }
 
-// Carries out a command that passed its tests: changes the two stores, and tells what becomes of the made groups.
+// Carries out a command that passed its tests: changes the stores and the sums, and tells what becomes of the made groups.
 pub fn change(
     command: Command,
     sizes: &[u8],
@@ -60,13 +60,14 @@ pub fn change(
     groups: &[u64],
     values: &mut [u8],
     blocks: &mut [u8],
+    sums: &mut [u8],
     payload: &[u8],
 ) -> Regroup
-    requires { ⌜ SoundBoard (lentLayout (now sizes) writable (now curves) (now functions)) (lent (now values) (now blocks) (now groups)) ⌝ }
+    requires { ⌜ SoundBoard (lentLayout (now sizes) writable (now curves) (now functions)) (lent (now values) (now blocks) (now sums) (now groups)) ⌝ }
     requires { ⌜ Passed (lentLayout (now sizes) writable (now curves) (now functions)) (now groups) (now payload) command ⌝ }
     ensures { λ r. let l = lentLayout (now (sizes .entry)) writable (now (curves .entry)) (now (functions .entry)) in
-        let x = lent (now (values .entry)) (now (blocks .entry)) (now (groups .entry)) in
-        let y = lent (now (values .exit)) (now (blocks .exit)) (now (groups .entry)) in
+        let x = lent (now (values .entry)) (now (blocks .entry)) (now (sums .entry)) (now (groups .entry)) in
+        let y = lent (now (values .exit)) (now (blocks .exit)) (now (sums .exit)) (now (groups .entry)) in
         ⌜ ChangedBy l x (line l (x .groups) (now (payload .entry)) command .change) r y ⌝ }
 {
     match command {
@@ -91,11 +92,16 @@ pub fn change(
             curves::change(curves, blocks, payload);
             Regroup::Keep
         }
+        Command::RenewSum => {
+            curves::renew(curves, blocks, sums, parts::curve_at(payload, 0));
+            Regroup::Keep
+        }
         Command::Version => Regroup::Keep,
         Command::ListVariables => Regroup::Keep,
         Command::ListGroups => Regroup::Keep,
         Command::ShowGroup => Regroup::Keep,
         Command::ListCurves => Regroup::Keep,
+        Command::ReadSum => Regroup::Keep,
         Command::ListFunctions => Regroup::Keep,
         Command::ReadVariable => Regroup::Keep,
         Command::ReadGroup => Regroup::Keep,

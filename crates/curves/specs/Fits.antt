@@ -1,16 +1,20 @@
--- What the commands of curves ask of a board and of a payload, and the block that a payload names. Assumes nothing.
+-- What the commands of curves ask of a board and of a payload, the block that a payload names, and the sums. Assumes nothing.
 use mathlib.Core.Path.{_≡_}
 use mathlib.Core.Bool.{true}
-use mathlib.Core.List.{List, []}
-use Prim.Native.Nat.{ℕ, _+_, _≤_, _<_}
-use lib.ListN.{length, getD}
-use Rattle.bsmp.specs.Base.{sum, cut, wordAt}
-use Rattle.bsmp.specs.Board.{curveOf, blockSizes, blockPlace, usableCurves}
+use mathlib.Core.List.{List, [], _++_, map}
+use Prim.Native.Nat.{ℕ, _+_, _-_, _*_, _≤_, _<_}
+use lib.ListN.{length, take, drop, getD}
+use Rattle.md5.specs.Md5.{digest}
+use Rattle.bsmp.specs.Base.{sum, join, upFrom, cut, byteAt, wordAt}
+use Rattle.bsmp.specs.Board.{curve, curveOf, blockSizes, sumSizes, blockPlace, usableCurves}
 use Rattle.bsmp.specs.Store.{start}
 use Rattle.bsmp.specs.Message.{curveAt}
+use Rattle.bsmp.specs.declared.CurveNumber.{CurveNumber}
 use Rattle.bsmp.specs.declared.Curve.{Curve}
+use Rattle.copies.specs.Put.{part}
 use Rattle.parts.specs.Parts.{curvesOnly}
 use Rattle.curves.specs.declared.Block.{Block}
+use Rattle.curves.specs.declared.Content.{Content}
 
 -- usable curves, and a store of exactly their length
 pub record SoundCurves (cs : List Curve) (store : List ℕ) : Type 0 where
@@ -56,3 +60,33 @@ pub record BlockAt (cs : List Curve) (payload : List ℕ) (b : Block) : Type 0 w
   pub own : b .size ≡ namedCurve cs payload .size
   pub inside : b .at + b .size ≤ sum (blockSizes cs)
   pub small : b .size ≤ 4096
+
+-- the sums: 16 bytes for each curve, one curve's after another's
+pub record SoundSums (cs : List Curve) (sums : List ℕ) : Type 0 where
+  pub exact : length sums ≡ sum (sumSizes cs)
+
+abbrev pub sumsIn : List Curve → (sums : List ℕ) → List (List ℕ)
+sumsIn cs sums = cut (sumSizes cs) sums
+
+-- where a curve's sum stands among them
+abbrev pub sumAt : (sums : List ℕ) → CurveNumber → List ℕ
+sumAt sums c = part sums (16 * c .0) 16
+
+-- a payload names a curve whose sum stands among these: what a pass of 0A says
+pub record SumNamed (sums payload : List ℕ) : Type 0 where
+  pub some : 0 < length payload
+  pub inside : 16 * byteAt payload 0 + 16 ≤ length sums
+
+-- what a curve holds: its blocks, one after another
+abbrev pub contentIn : List Curve → (store : List ℕ) → CurveNumber → List ℕ
+contentIn cs store c = join (take (curveOf (curvesOnly cs) c .blocks) (drop (blockPlace (curvesOnly cs) c 0) (blocksIn cs store)))
+
+-- where it stands in the store: inside, and from end to end
+pub record ContentAt (cs : List Curve) (c : CurveNumber) (x : Content) : Type 0 where
+  pub inside : x .to ≤ sum (blockSizes cs)
+  pub ordered : x .from ≤ x .to
+  pub holds : (store : List ℕ) → length store ≡ sum (blockSizes cs) → part store (x .from) (x .to - x .from) ≡ contentIn cs store c
+
+-- the sum of each of the first n curves worked out, those of the others as they were
+abbrev pub freshTo : List Curve → (store sums : List ℕ) → ℕ → List (List ℕ)
+freshTo cs store sums n = map (λ c. digest (contentIn cs store (curve c))) (upFrom 0 n) ++ drop n (sumsIn cs sums)

@@ -1,4 +1,4 @@
-// The commands of curves: 40 reads a block, 41 writes one, 08 lists the curves.
+// The commands of curves: 40 reads a block, 41 writes one, 08 lists the curves; 0A reads the sum of one, 42 renews it.
 use bsmp::Check;
 use bsmp::Curve;
 use bsmp::CurveNumber;
@@ -11,12 +11,14 @@ ghost use lib.Dec.{ltb};
 ghost use lib.ListN.{length, drop, set};
 ghost use Rattle.bsmp.specs.Base.{bit, word, wordAt};
 ghost use Rattle.bsmp.specs.Board.{isWritable, usableCurves};
-ghost use Rattle.bsmp.specs.Message.{curveRecord, curveList, check, filled};
-ghost use Rattle.bsmp.specs.declared.Command.the-variants.{ReadBlock, WriteBlock};
+ghost use Rattle.bsmp.specs.Message.{curveAt, curveRecord, curveList, check, filled};
+ghost use Rattle.bsmp.specs.declared.Command.the-variants.{ReadSum, ReadBlock, WriteBlock};
+ghost use Rattle.md5.specs.Md5.{digest};
 ghost use Rattle.copies.specs.Put.{put};
 ghost use Rattle.parts.specs.Parts.{curvesOnly, PayloadAt};
 ghost use Rattle.records.specs.Lending.{curvesOf};
 ghost use Rattle.curves.specs.Fits.{SoundCurves, BlockNamed, BlockRead, BlockFits, blocksIn, placeOf, namedBlock, BlockAt};
+ghost use Rattle.curves.specs.Fits.{SoundSums, sumsIn, sumAt, SumNamed, contentIn, ContentAt, freshTo};
 
 // The number, in its curve, of the block that a payload names.
 fn block_number(payload: &[u8]) -> usize
@@ -127,6 +129,83 @@ pub fn tell(curves: &[u32], blocks: &[u8], payload: &[u8], reply: &mut [u8], at:
     copies::read_value(payload, 0, 3, reply, at);
     copies::read_block(blocks, block.at, block.size, reply, at + 3);
     3 + block.size
+}
+
+// 0A and 42, whose tests are the same: a curve, and nothing else.
+pub fn check_sum(curves: &[u32], payload: &[u8]) -> Check
+    ensures { λ r. ⌜ r ≡ check (curvesOnly (curvesOf (now (curves .entry)))) [] 0 (now (payload .entry)) ReadSum ⌝ }
+{
+    if payload.len() != 1 {
+        return Check::Fail(WireError::BadSize);
+    }
+    let c = parts::curve_at(payload, 0);
+    if records::curve_count(curves) <= c.0 {
+        return Check::Fail(WireError::BadId);
+    }
+    Check::Pass
+}
+
+// What a curve holds, in the store: all its blocks.
+struct Content {
+    from: usize,
+    to: usize,
+}
+
+impl Content {
+    fn of(curves: &[u32], c: CurveNumber) -> Content
+        requires { ⌜ (usableCurves (curvesOf (now curves)) ≡ true) × (c .0 < length (curvesOf (now curves))) ⌝ }
+        ensures { λ r. ⌜ ContentAt (curvesOf (now (curves .entry))) c r ⌝ }
+    {
+        let curve = records::curve_at(curves, c);
+        let from = records::blocks_before(curves, c);
+        Content {
+            from,
+            to: from + curve.size as usize * curve.blocks as usize,
+        }
+    }
+}
+
+// 42: the sum of a curve, worked out anew from what the curve holds. The others' sums stay.
+pub fn renew(curves: &[u32], blocks: &[u8], sums: &mut [u8], c: CurveNumber)
+    requires { ⌜ SoundCurves (curvesOf (now curves)) (now blocks) ⌝ }
+    requires { ⌜ SoundSums (curvesOf (now curves)) (now sums) × (c .0 < length (curvesOf (now curves))) ⌝ }
+    ensures { λ _. let curves = curvesOf (now (curves .entry)) in
+        let sum = digest (contentIn curves (now (blocks .entry)) c) in
+        ⌜ sumsIn curves (now (sums .exit)) ≡ set (sumsIn curves (now (sums .entry))) (c .0) sum ⌝ }
+{
+    let content = Content::of(curves, c);
+    let from = content.from;
+    let to = content.to;
+    let sum = digest::digest(&blocks[from..to]);
+    let at = 16 * c.0;
+    copies::copy_into(&mut sums[at..], &sum);
+}
+
+// All sums, as a fresh board has them.
+pub fn renew_all(curves: &[u32], blocks: &[u8], sums: &mut [u8])
+    requires { ⌜ SoundCurves (curvesOf (now curves)) (now blocks) ⌝ }
+    requires { ⌜ SoundSums (curvesOf (now curves)) (now sums) ⌝ }
+    ensures { λ _. let curves = curvesOf (now (curves .entry)) in
+        ⌜ sumsIn curves (now (sums .exit)) ≡ freshTo curves (now (blocks .entry)) (now (sums .entry)) (length curves) ⌝ }
+{
+    let n = records::curve_count(curves);
+    let mut i = 0;
+    while i < n {
+        renew(curves, blocks, sums, CurveNumber(i));
+        i += 1;
+    }
+}
+
+// 0B: the sum of the curve named, as it stands.
+pub fn tell_sum(sums: &[u8], payload: &[u8], reply: &mut [u8], at: usize) -> usize
+    requires { ⌜ SumNamed (now sums) (now payload) ⌝ }
+    requires { ⌜ at + 4099 ≤ length (now reply) ⌝ }
+    ensures { λ r. let sum = sumAt (now (sums .entry)) (curveAt (now (payload .entry)) 0) in
+        ⌜ PayloadAt (now (reply .entry)) at sum r (now (reply .exit)) ⌝ }
+{
+    let c = parts::curve_at(payload, 0);
+    copies::read_value(sums, 16 * c.0, 16, reply, at);
+    16
 }
 
 // A type: 1 if writable.

@@ -1,4 +1,4 @@
-// A message's tests: its length and SIZE, then those of its command. All 18 commands together; nothing here knows how the message came.
+// A message's tests: its length and SIZE, then those of its command. All 20 commands together; nothing here knows how the message came.
 use bsmp::Check;
 use bsmp::Command;
 use bsmp::WireError;
@@ -31,6 +31,7 @@ fn check(
         Command::ListGroups => parts::check_empty(payload),
         Command::ShowGroup => groups::check_show(sizes, writable, groups, payload, busy),
         Command::ListCurves => parts::check_empty(payload),
+        Command::ReadSum => curves::check_sum(curves, payload),
         Command::ListFunctions => parts::check_empty(payload),
         Command::ReadVariable => variables::check_read(sizes, writable, payload, busy),
         Command::ReadGroup => groups::check_read(sizes, writable, groups, payload, busy),
@@ -43,6 +44,7 @@ fn check(
         Command::RemoveGroups => parts::check_empty(payload),
         Command::ReadBlock => curves::check_read(curves, payload),
         Command::WriteBlock => curves::check_write(curves, payload),
+        Command::RenewSum => curves::check_sum(curves, payload),
         Command::RunFunction => functions::check_run(functions, payload),
         Command::Unknown => Check::Fail(WireError::Unsupported),
     }

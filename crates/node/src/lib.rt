@@ -97,16 +97,17 @@ fn answer(
     groups: &[u64],
     values: &mut [u8],
     blocks: &mut [u8],
+    sums: &mut [u8],
     message: &[u8],
     busy: u64,
     reply: &mut [u8],
 ) -> Received
     requires { let l = typedLayout (now sizes) (now types) (now curves) (now functions) in
-        ⌜ SoundBoard l (lent (now values) (now blocks) (now groups)) × SoundTypes (now types) ⌝ }
+        ⌜ SoundBoard l (lent (now values) (now blocks) (now sums) (now groups)) × SoundTypes (now types) ⌝ }
     requires { ⌜ 4104 ≤ length (now reply) ⌝ }
     ensures { λ r. let l = typedLayout (now (sizes .entry)) (now (types .entry)) (now (curves .entry)) (now (functions .entry)) in
-        let x = lent (now (values .entry)) (now (blocks .entry)) (now (groups .entry)) in
-        let y = lent (now (values .exit)) (now (blocks .exit)) (now (groups .entry)) in
+        let x = lent (now (values .entry)) (now (blocks .entry)) (now (sums .entry)) (now (groups .entry)) in
+        let y = lent (now (values .exit)) (now (blocks .exit)) (now (sums .exit)) (now (groups .entry)) in
         let result = served l busy due (now (message .entry)) (held l x) in
         ⌜ EndsAs result l (now (reply .entry)) (r .outcome) (r .regroup) (now (reply .exit)) y ⌝ }
 {
@@ -119,6 +120,7 @@ fn answer(
         groups,
         values,
         blocks,
+        sums,
         message,
         busy,
         reply,
@@ -144,17 +146,18 @@ fn lend(
     busy: u64,
     values: &mut [u8],
     blocks: &mut [u8],
+    sums: &mut [u8],
     request: &[u8],
     reply: &mut [u8],
 ) -> Received
     requires { let records = recordsBy count (now types) (now sizes) (now kinds) in
-        ⌜ BoardReady records (now curves) (now functions) (groupsBy made (now sets)) (now values) (now blocks) ⌝ }
+        ⌜ BoardReady records (now curves) (now functions) (groupsBy made (now sets)) (now values) (now blocks) (now sums) ⌝ }
     requires { ⌜ (2 ≤ length (now request)) × (4104 ≤ length (now reply)) ⌝ }
     ensures { λ r. let records = recordsBy count (now (types .entry)) (now (sizes .entry)) (now (kinds .entry)) in
         let l = layout (tableOf records (now (curves .entry)) (now (functions .entry))) in
         let groups = groupsOf (groupsBy made (now (sets .entry))) in
-        let x = lent (now (values .entry)) (now (blocks .entry)) groups in
-        let y = lent (now (values .exit)) (now (blocks .exit)) groups in
+        let x = lent (now (values .entry)) (now (blocks .entry)) (now (sums .entry)) groups in
+        let y = lent (now (values .exit)) (now (blocks .exit)) (now (sums .exit)) groups in
         let result = served l busy due (message (now (request .entry))) (held l x) in
         ⌜ EndsAs result l (now (reply .entry)) (r .outcome) (r .regroup) (now (reply .exit)) y ⌝ }
 {
@@ -169,6 +172,7 @@ fn lend(
         &sets[0..groups],
         values,
         blocks,
+        sums,
         &request[1..end],
         busy,
         reply,
@@ -187,10 +191,11 @@ fn ready(
     sets: &[u64; 5],
     values: &[u8],
     blocks: &[u8],
+    sums: &[u8],
 ) -> bool
     ensures { λ r. let records = recordsBy count (now (writable .entry)) (now (sizes .entry)) (now (kinds .entry)) in
         let groups = groupsBy made (now (sets .entry)) in
-        ⌜ Tested r records (now (curves .entry)) (now (functions .entry)) groups (now (values .entry)) (now (blocks .entry)) ⌝ }
+        ⌜ Tested r records (now (curves .entry)) (now (functions .entry)) groups (now (values .entry)) (now (blocks .entry)) (now (sums .entry)) ⌝ }
 {
     // as slices, since of these it is known how many places there are
     let _types = &writable[..];
@@ -207,6 +212,7 @@ fn ready(
         sets,
         values,
         blocks,
+        sums,
     )
 }
 
@@ -226,16 +232,17 @@ fn receive(
     busy: u64,
     values: &mut [u8],
     blocks: &mut [u8],
+    sums: &mut [u8],
     request: &[u8],
     reply: &mut [u8],
 ) -> Received
     requires { let records = recordsBy count (now types) (now sizes) (now kinds) in
-        ⌜ Tested usable records (now curves) (now functions) (groupsBy made (now sets)) (now values) (now blocks) ⌝ }
+        ⌜ Tested usable records (now curves) (now functions) (groupsBy made (now sets)) (now values) (now blocks) (now sums) ⌝ }
     ensures { λ r. let records = recordsBy count (now (types .entry)) (now (sizes .entry)) (now (kinds .entry)) in
         let t = tableOf records (now (curves .entry)) (now (functions .entry)) in
         let groups = groupsOf (groupsBy made (now (sets .entry))) in
-        let x = lent (now (values .entry)) (now (blocks .entry)) groups in
-        let y = lent (now (values .exit)) (now (blocks .exit)) groups in
+        let x = lent (now (values .entry)) (now (blocks .entry)) (now (sums .entry)) groups in
+        let y = lent (now (values .exit)) (now (blocks .exit)) (now (sums .exit)) groups in
         let b = now (reply .entry) in
         ⌜ CarriedAs t (placed own multicast) busy (now (request .entry)) x b (r .outcome) (r .regroup) (now (reply .exit)) y ⌝ }
 {
@@ -261,6 +268,7 @@ fn receive(
         busy,
         values,
         blocks,
+        sums,
         request,
         reply,
     )
@@ -281,14 +289,15 @@ fn carry(
     busy: u64,
     values: &mut [u8],
     blocks: &mut [u8],
+    sums: &mut [u8],
     request: &[u8],
     reply: &mut [u8],
 ) -> Received
     ensures { λ r. let records = recordsBy count (now (writable .entry)) (now (sizes .entry)) (now (kinds .entry)) in
         let t = tableOf records (now (curves .entry)) (now (functions .entry)) in
         let groups = groupsOf (groupsBy made (now (sets .entry))) in
-        let x = lent (now (values .entry)) (now (blocks .entry)) groups in
-        let y = lent (now (values .exit)) (now (blocks .exit)) groups in
+        let x = lent (now (values .entry)) (now (blocks .entry)) (now (sums .entry)) groups in
+        let y = lent (now (values .exit)) (now (blocks .exit)) (now (sums .exit)) groups in
         let b = now (reply .entry) in
         ⌜ CarriedAs t (placed own multicast) busy (now (request .entry)) x b (r .outcome) (r .regroup) (now (reply .exit)) y
         × Fits (r .regroup) (groupsBy made (now (sets .entry))) ⌝ }
@@ -305,6 +314,7 @@ fn carry(
         sets,
         values,
         blocks,
+        sums,
     );
     receive(
         usable,
@@ -321,6 +331,7 @@ fn carry(
         busy,
         values,
         blocks,
+        sums,
         request,
         reply,
     )
@@ -341,15 +352,16 @@ pub fn packet(
     busy: u64,
     values: &mut [u8],
     blocks: &mut [u8],
+    sums: &mut [u8],
     request: &[u8],
     reply: &mut [u8],
 ) -> Done
     ensures { λ r. let records = recordsBy count (now (writable .entry)) (now (sizes .entry)) (now (kinds .entry)) in
         let t = tableOf records (now (curves .entry)) (now (functions .entry)) in
         let groups = groupsBy made (now (sets .entry)) in
-        let s = held (layout t) (lent (now (values .entry)) (now (blocks .entry)) (groupsOf groups)) in
+        let s = held (layout t) (lent (now (values .entry)) (now (blocks .entry)) (now (sums .entry)) (groupsOf groups)) in
         let result = packet t (placed own multicast) busy (length (now (reply .entry))) (now (request .entry)) s in
-        ⌜ packetLeft r (now (sets .exit)) (now (reply .exit)) (now (values .exit)) (now (blocks .exit)) ≡ packetLeftOf result (now (reply .entry)) groups ⌝ }
+        ⌜ packetLeft r (now (sets .exit)) (now (reply .exit)) (now (values .exit)) (now (blocks .exit)) (now (sums .exit)) ≡ packetLeftOf result (now (reply .entry)) groups ⌝ }
 {
     let h = carry(
         count,
@@ -365,6 +377,7 @@ pub fn packet(
         busy,
         values,
         blocks,
+        sums,
         request,
         reply,
     );

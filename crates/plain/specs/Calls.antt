@@ -5,13 +5,13 @@ use Prim.Native.Nat.{ℕ}
 use lib.IntN.{ℤ}
 use lib.ListN.{length}
 use Rattle.bsmp.specs.Board.{variable, function}
-use Rattle.bsmp.specs.Packet.{packet, functionResult, boardStore}
+use Rattle.bsmp.specs.Packet.{packet, functionResult, boardStore, freshBoard}
 use Rattle.bsmp.specs.Number.{reading, writing}
 use Rattle.bsmp.specs.declared.Variable.{Variable}
 use Rattle.records.specs.declared.Groups.{Groups}
 use Rattle.wire.specs.Opening.{placed}
 use Rattle.node.specs.Promise.{PacketLeft, packetLeftOf}
-use Rattle.results.specs.Results.{ranOf, ResultLeft, resultLeftOf, StoreLeft, storeLeftOf}
+use Rattle.results.specs.Results.{ranOf, ResultLeft, resultLeftOf, StoreLeft, storeLeftOf, FreshLeft, freshLeftOf}
 use Rattle.readings.specs.Answers.{WritingLeft, writingLeftOf}
 use Rattle.plain.specs.Lending.{Lending, tableIn, heldIn}
 use Rattle.plain.specs.Numbers.{plainOutcomeOf, ranFrom, storedNumber, writingNumber, PlainReading, plainReadingOf}
@@ -24,12 +24,13 @@ pub record PlainPacketLeft : Type 0 where
   pub reply : List ℕ
   pub values : List ℕ
   pub blocks : List ℕ
+  pub sums : List ℕ
 
-abbrev pub plainPacketLeft : PlainOutcome → Groups → (reply values blocks : List ℕ) → PlainPacketLeft
-plainPacketLeft o g r vs bs = record { outcome = o; groups = g; reply = r; values = vs; blocks = bs }
+abbrev pub plainPacketLeft : PlainOutcome → Groups → (reply values blocks sums : List ℕ) → PlainPacketLeft
+plainPacketLeft o g r vs bs ds = record { outcome = o; groups = g; reply = r; values = vs; blocks = bs; sums = ds }
 
 abbrev pub plainPacketLeftOf : PacketLeft → PlainPacketLeft
-plainPacketLeftOf x = plainPacketLeft (plainOutcomeOf (x .outcome)) (x .groups) (x .reply) (x .values) (x .blocks)
+plainPacketLeftOf x = plainPacketLeft (plainOutcomeOf (x .outcome)) (x .groups) (x .reply) (x .values) (x .blocks) (x .sums)
 
 abbrev pub packetOf : Lending → (own multicast busy : ℕ) → (request reply : List ℕ) → PlainPacketLeft
 packetOf x own multicast busy request reply =
@@ -50,7 +51,7 @@ abbrev pub resultOf : Lending → ℕ → (due failed : Bool) → (error : ℕ) 
 resultOf x f due failed error output reply =
     plainResultLeftOf (resultLeftOf (functionResult (tableIn x) (length reply) (function f) due (ranOf (ranFrom failed error) output) (heldIn x) .ending) reply)
 
--- a board store and number to bytes leave 0 or the refusal's number, and the bytes that were lent to be written
+-- a board store, a fresh board and number to bytes leave 0 or the refusal's number, and the bytes that were lent to be written
 pub record PlainBytesLeft : Type 0 where
   pub number : ℕ
   pub bytes : List ℕ
@@ -63,6 +64,12 @@ plainStoreLeftOf x = plainBytesLeft (storedNumber (x .stored)) (x .values)
 
 abbrev pub storeOf : Lending → ℕ → (bytes : List ℕ) → PlainBytesLeft
 storeOf x i bytes = plainStoreLeftOf (storeLeftOf (boardStore (tableIn x) (variable i) bytes (heldIn x)))
+
+abbrev pub plainFreshLeftOf : FreshLeft → PlainBytesLeft
+plainFreshLeftOf x = plainBytesLeft (storedNumber (x .stored)) (x .sums)
+
+abbrev pub freshOf : Lending → PlainBytesLeft
+freshOf x = plainFreshLeftOf (freshLeftOf (freshBoard (tableIn x) (heldIn x)))
 
 abbrev pub plainWritingLeftOf : WritingLeft → PlainBytesLeft
 plainWritingLeftOf x = plainBytesLeft (writingNumber (x .answer)) (x .buffer)

@@ -11,11 +11,12 @@ use results::Stored;
 ghost use mathlib.Core.Path.{_≡_};
 ghost use mathlib.Core.Bool.{true, false};
 ghost use lib.IntN.{pos};
+ghost use Rattle.md5.specs.Md5.{digest};
 ghost use Rattle.records.specs.Lending.{recordsBy, recordsOf, groupsBy};
 ghost use Rattle.readings.specs.Answers.{signedReadingOf, unsignedReadingOf};
 ghost use Rattle.plain.specs.Lending.{lending};
 ghost use Rattle.plain.specs.Numbers.{plainOutcomeOf, ranFrom, storedNumber, writingNumber, plainReadingOf, signedSays, unsignedSays};
-ghost use Rattle.plain.specs.Calls.{plainPacketLeft, packetOf, plainResultLeft, resultOf, plainBytesLeft, storeOf, writingOf, readingOf};
+ghost use Rattle.plain.specs.Calls.{plainPacketLeft, packetOf, plainResultLeft, resultOf, plainBytesLeft, storeOf, freshOf, writingOf, readingOf};
 
 // How a call ends: kind 0 a reply of `length` bytes, 1 silence, 2 a function to be run with `length` bytes of input from place
 // `input` of the packet on, 3 a local refusal with 01's number. What a kind has no use for is 0.
@@ -40,6 +41,12 @@ pub struct PlainSignedReading {
 pub struct PlainUnsignedReading {
     pub refusal: u64,
     pub number: u64,
+}
+
+// A sum of 16 bytes.
+#[repr(C)]
+pub struct PlainSum {
+    pub bytes: [u8; 16],
 }
 
 // What a packet comes to: how it ends, and how many groups are made then.
@@ -167,13 +174,14 @@ pub fn packet(
     busy: u64,
     values: &mut [u8],
     blocks: &mut [u8],
+    sums: &mut [u8],
     request: &[u8],
     reply: &mut [u8],
 ) -> PlainDone
     ensures { λ r. let records = recordsBy count (now (writable .entry)) (now (sizes .entry)) (now (kinds .entry)) in
         let groups = groupsBy made (now (sets .entry)) in
-        let board = lending (recordsOf records) (now (curves .entry)) (now (functions .entry)) groups (now (values .entry)) (now (blocks .entry)) in
-        ⌜ plainPacketLeft (r .outcome) (groupsBy (r .count) (now (sets .exit))) (now (reply .exit)) (now (values .exit)) (now (blocks .exit))
+        let board = lending (recordsOf records) (now (curves .entry)) (now (functions .entry)) groups (now (values .entry)) (now (blocks .entry)) (now (sums .entry)) in
+        ⌜ plainPacketLeft (r .outcome) (groupsBy (r .count) (now (sets .exit))) (now (reply .exit)) (now (values .exit)) (now (blocks .exit)) (now (sums .exit))
         ≡ packetOf board own multicast busy (now (request .entry)) (now (reply .entry)) ⌝ }
 {
     let done = node::packet(
@@ -190,6 +198,7 @@ pub fn packet(
         busy,
         values,
         blocks,
+        sums,
         request,
         reply,
     );
@@ -212,6 +221,7 @@ pub fn function_result(
     sets: &[u64; 5],
     values: &[u8],
     blocks: &[u8],
+    sums: &[u8],
     function: usize,
     due: bool,
     failed: bool,
@@ -221,7 +231,7 @@ pub fn function_result(
 ) -> PlainOutcome
     ensures { λ r. let records = recordsBy count (now (writable .entry)) (now (sizes .entry)) (now (kinds .entry)) in
         let groups = groupsBy made (now (sets .entry)) in
-        let board = lending (recordsOf records) (now (curves .entry)) (now (functions .entry)) groups (now (values .entry)) (now (blocks .entry)) in
+        let board = lending (recordsOf records) (now (curves .entry)) (now (functions .entry)) groups (now (values .entry)) (now (blocks .entry)) (now (sums .entry)) in
         ⌜ plainResultLeft r (now (reply .exit)) ≡ resultOf board function due failed error (now (output .entry)) (now (reply .entry)) ⌝ }
 {
     let ran = ran_of(failed, error);
@@ -236,6 +246,7 @@ pub fn function_result(
         sets,
         values,
         blocks,
+        sums,
         FunctionNumber(function),
         due,
         ran,
@@ -256,12 +267,13 @@ pub fn board_store(
     sets: &[u64; 5],
     values: &mut [u8],
     blocks: &[u8],
+    sums: &[u8],
     variable: usize,
     bytes: &[u8],
 ) -> u8
     ensures { λ r. let records = recordsBy count (now (writable .entry)) (now (sizes .entry)) (now (kinds .entry)) in
         let groups = groupsBy made (now (sets .entry)) in
-        let board = lending (recordsOf records) (now (curves .entry)) (now (functions .entry)) groups (now (values .entry)) (now (blocks .entry)) in
+        let board = lending (recordsOf records) (now (curves .entry)) (now (functions .entry)) groups (now (values .entry)) (now (blocks .entry)) (now (sums .entry)) in
         ⌜ plainBytesLeft r (now (values .exit)) ≡ storeOf board variable (now (bytes .entry)) ⌝ }
 {
     let stored = results::board_store(
@@ -275,8 +287,43 @@ pub fn board_store(
         sets,
         values,
         blocks,
+        sums,
         VariableNumber(variable),
         bytes,
+    );
+    stored_number(stored)
+}
+
+pub fn fresh_board(
+    count: usize,
+    writable: &[u8; 64],
+    sizes: &[u8; 64],
+    kinds: &[u8; 64],
+    curves: &[u32],
+    functions: &[u8],
+    made: u64,
+    sets: &[u64; 5],
+    values: &[u8],
+    blocks: &[u8],
+    sums: &mut [u8],
+) -> u8
+    ensures { λ r. let records = recordsBy count (now (writable .entry)) (now (sizes .entry)) (now (kinds .entry)) in
+        let groups = groupsBy made (now (sets .entry)) in
+        let board = lending (recordsOf records) (now (curves .entry)) (now (functions .entry)) groups (now (values .entry)) (now (blocks .entry)) (now (sums .entry)) in
+        ⌜ plainBytesLeft r (now (sums .exit)) ≡ freshOf board ⌝ }
+{
+    let stored = results::fresh_board(
+        count,
+        writable,
+        sizes,
+        kinds,
+        curves,
+        functions,
+        made,
+        sets,
+        values,
+        blocks,
+        sums,
     );
     stored_number(stored)
 }
@@ -367,4 +414,12 @@ pub fn write_unsigned(
         number,
         buffer,
     ))
+}
+
+// The MD5 of a message, for who has no curve: a download can be summed before it is sent.
+pub fn md5(message: &[u8]) -> PlainSum
+    ensures { λ r. ⌜ r .bytes ≡ digest (now (message .entry)) ⌝ }
+{
+    let bytes = digest::digest(message);
+    PlainSum { bytes }
 }

@@ -71,15 +71,18 @@ newGroupOf n m = record { count = n + 1; place = n; set = m }
 abbrev pub tableOf : Records → (curves functions : List ℕ) → Table
 tableOf r cs fs = record { variables = recordsOf r; curves = curvesOf cs; functions = functionsOf fs }
 
-abbrev pub lent : (values blocks groups : List ℕ) → Lent
-lent vs bs gs = record { values = vs; blocks = bs; groups = gs }
+abbrev pub lent : (values blocks sums groups : List ℕ) → Lent
+lent vs bs ds gs = record { values = vs; blocks = bs; sums = ds; groups = gs }
 
 -- what is lent, with one of its parts as a call leaves it
 abbrev pub lentValues : Lent → List ℕ → Lent
-lentValues x vs = record { values = vs; blocks = x .blocks; groups = x .groups }
+lentValues x vs = lent vs (x .blocks) (x .sums) (x .groups)
 
 abbrev pub lentBlocks : Lent → List ℕ → Lent
-lentBlocks x bs = record { values = x .values; blocks = bs; groups = x .groups }
+lentBlocks x bs = lent (x .values) bs (x .sums) (x .groups)
+
+abbrev pub lentSums : Lent → List ℕ → Lent
+lentSums x ds = lent (x .values) (x .blocks) ds (x .groups)
 
 abbrev pub lentGroups : Lent → List ℕ → Lent
-lentGroups x gs = record { values = x .values; blocks = x .blocks; groups = gs }
+lentGroups x gs = lent (x .values) (x .blocks) (x .sums) gs

@@ -1,4 +1,4 @@
--- What a function's result and a board store leave, of the code and of the definition. Assumes nothing.
+-- What a function's result, a board store and a fresh board leave, of the code and of the definition. Assumes nothing.
 use mathlib.Core.List.{List, [], _∷_}
 use Prim.Native.Nat.{ℕ}
 use Rattle.bsmp.specs.Base.{join}
@@ -32,14 +32,15 @@ resultLeft o b = record { outcome = o; reply = b }
 abbrev pub resultLeftOf : Ending → (buffer : List ℕ) → ResultLeft
 resultLeftOf e b = resultLeft (outcomeOf e) (shown e b)
 
--- a board store ends in silence or in a refusal; the other two endings don't occur (law `store-ends`) and stand as Done
+-- a board store and a fresh board end in silence or in a refusal; the other two endings don't occur (laws `store-ends`, `fresh-ends`) and
+-- stand as Done
 abbrev pub storedOf : Ending → Stored
 storedOf (Ending.refused n) = Refused n
 storedOf silence = Done
 storedOf (reply r) = Done
 storedOf (run f i due) = Done
 
--- it leaves its answer and the store of the values
+-- a board store leaves its answer and the store of the values
 pub record StoreLeft : Type 0 where
   pub stored : Stored
   pub values : List ℕ
@@ -49,3 +50,14 @@ storeLeft a vs = record { stored = a; values = vs }
 
 abbrev pub storeLeftOf : Result → StoreLeft
 storeLeftOf r = storeLeft (storedOf (r .ending)) (join (r .state .values))
+
+-- a fresh board leaves its answer and the sums
+pub record FreshLeft : Type 0 where
+  pub stored : Stored
+  pub sums : List ℕ
+
+abbrev pub freshLeft : Stored → List ℕ → FreshLeft
+freshLeft a ds = record { stored = a; sums = ds }
+
+abbrev pub freshLeftOf : Result → FreshLeft
+freshLeftOf r = freshLeft (storedOf (r .ending)) (join (r .state .sums))

@@ -1,4 +1,4 @@
-// Two entries of a board, with nothing asked of the caller: a function's result, and a board store.
+// Three entries of a board, with nothing asked of the caller: a function's result, a board store, and a fresh board's sums.
 use bsmp::FunctionNumber;
 use bsmp::Outcome;
 use bsmp::Refusal;
@@ -9,11 +9,11 @@ ghost use Prim.Native.Nat.{_≤_};
 ghost use lib.ListN.{length};
 ghost use Rattle.bsmp.specs.Base.{first};
 ghost use Rattle.bsmp.specs.Board.{layout, faults};
-ghost use Rattle.bsmp.specs.Packet.{ends, ranSays, resultTests, storeTests, functionResult, boardStore};
+ghost use Rattle.bsmp.specs.Packet.{ends, ranSays, resultTests, storeTests, functionResult, boardStore, freshBoard};
 ghost use Rattle.bsmp.specs.Store.{held};
 ghost use Rattle.bsmp.specs.declared.Outcome.the-variants.{Reply};
 ghost use Rattle.records.specs.Lending.{groupsBy, groupsOf, recordsBy, tableOf, lent};
-ghost use Rattle.results.specs.Results.{ranOf, ranPayload, resultLeft, resultLeftOf, storeLeft, storeLeftOf};
+ghost use Rattle.results.specs.Results.{ranOf, ranPayload, resultLeft, resultLeftOf, storeLeft, storeLeftOf, freshLeft, freshLeftOf};
 ghost use Rattle.results.specs.declared.Judged.the-variants.{Pass, Refuse};
 
 // How a function ran. The bytes that it gave stand beside this; one that failed gives an error byte only.
@@ -51,6 +51,7 @@ fn judge_result(
     sets: &[u64; 5],
     values: &[u8],
     blocks: &[u8],
+    sums: &[u8],
     function: FunctionNumber,
     ran: Ran,
     output: &[u8],
@@ -59,7 +60,7 @@ fn judge_result(
     ensures { λ r. let records = recordsBy count (now (writable .entry)) (now (sizes .entry)) (now (kinds .entry)) in
         let table = tableOf records (now (curves .entry)) (now (functions .entry)) in
         let groups = groupsOf (groupsBy made (now (sets .entry))) in
-        let state = held (layout table) (lent (now (values .entry)) (now (blocks .entry)) groups) in
+        let state = held (layout table) (lent (now (values .entry)) (now (blocks .entry)) (now (sums .entry)) groups) in
         ⌜ r ≡ first (faults table state) Refuse (first (resultTests (layout table) room function (ranOf ran (now (output .entry)))) Refuse Pass) ⌝ }
 {
     let usable = boards::usable_board(
@@ -73,6 +74,7 @@ fn judge_result(
         sets,
         values,
         blocks,
+        sums,
     );
     if !usable {
         return Judged::Refuse(Refusal::BoardUnusable);
@@ -124,6 +126,7 @@ pub fn function_result(
     sets: &[u64; 5],
     values: &[u8],
     blocks: &[u8],
+    sums: &[u8],
     function: FunctionNumber,
     due: bool,
     ran: Ran,
@@ -133,7 +136,7 @@ pub fn function_result(
     ensures { λ r. let records = recordsBy count (now (writable .entry)) (now (sizes .entry)) (now (kinds .entry)) in
         let table = tableOf records (now (curves .entry)) (now (functions .entry)) in
         let groups = groupsOf (groupsBy made (now (sets .entry))) in
-        let state = held (layout table) (lent (now (values .entry)) (now (blocks .entry)) groups) in
+        let state = held (layout table) (lent (now (values .entry)) (now (blocks .entry)) (now (sums .entry)) groups) in
         let was = now (reply .entry) in
         ⌜ resultLeft r (now (reply .exit))
         ≡ resultLeftOf (functionResult table (length was) function due (ranOf ran (now (output .entry))) state .ending) was ⌝ }
@@ -150,6 +153,7 @@ pub fn function_result(
         sets,
         values,
         blocks,
+        sums,
         function,
         ran,
         output,
@@ -178,13 +182,14 @@ fn judge_store(
     sets: &[u64; 5],
     values: &[u8],
     blocks: &[u8],
+    sums: &[u8],
     variable: VariableNumber,
     bytes: &[u8],
 ) -> Judged
     ensures { λ r. let records = recordsBy count (now (writable .entry)) (now (sizes .entry)) (now (kinds .entry)) in
         let table = tableOf records (now (curves .entry)) (now (functions .entry)) in
         let groups = groupsOf (groupsBy made (now (sets .entry))) in
-        let state = held (layout table) (lent (now (values .entry)) (now (blocks .entry)) groups) in
+        let state = held (layout table) (lent (now (values .entry)) (now (blocks .entry)) (now (sums .entry)) groups) in
         ⌜ r ≡ first (faults table state) Refuse (first (storeTests (layout table) variable (now (bytes .entry))) Refuse Pass) ⌝ }
 {
     let usable = boards::usable_board(
@@ -198,6 +203,7 @@ fn judge_store(
         sets,
         values,
         blocks,
+        sums,
     );
     if !usable {
         return Judged::Refuse(Refusal::BoardUnusable);
@@ -225,13 +231,14 @@ pub fn board_store(
     sets: &[u64; 5],
     values: &mut [u8],
     blocks: &[u8],
+    sums: &[u8],
     variable: VariableNumber,
     bytes: &[u8],
 ) -> Stored
     ensures { λ r. let records = recordsBy count (now (writable .entry)) (now (sizes .entry)) (now (kinds .entry)) in
         let table = tableOf records (now (curves .entry)) (now (functions .entry)) in
         let groups = groupsOf (groupsBy made (now (sets .entry))) in
-        let state = held (layout table) (lent (now (values .entry)) (now (blocks .entry)) groups) in
+        let state = held (layout table) (lent (now (values .entry)) (now (blocks .entry)) (now (sums .entry)) groups) in
         ⌜ storeLeft r (now (values .exit)) ≡ storeLeftOf (boardStore table variable (now (bytes .entry)) state) ⌝ }
 {
     let judged = judge_store(
@@ -245,6 +252,7 @@ pub fn board_store(
         sets,
         values,
         blocks,
+        sums,
         variable,
         bytes,
     );
@@ -256,4 +264,44 @@ pub fn board_store(
             Stored::Done
         }
     }
+}
+
+// A fresh board's sums, worked out from its curves. Nothing but the sums is written.
+pub fn fresh_board(
+    count: usize,
+    writable: &[u8; 64],
+    sizes: &[u8; 64],
+    kinds: &[u8; 64],
+    curves: &[u32],
+    functions: &[u8],
+    made: u64,
+    sets: &[u64; 5],
+    values: &[u8],
+    blocks: &[u8],
+    sums: &mut [u8],
+) -> Stored
+    ensures { λ r. let records = recordsBy count (now (writable .entry)) (now (sizes .entry)) (now (kinds .entry)) in
+        let table = tableOf records (now (curves .entry)) (now (functions .entry)) in
+        let groups = groupsOf (groupsBy made (now (sets .entry))) in
+        let state = held (layout table) (lent (now (values .entry)) (now (blocks .entry)) (now (sums .entry)) groups) in
+        ⌜ freshLeft r (now (sums .exit)) ≡ freshLeftOf (freshBoard table state) ⌝ }
+{
+    let usable = boards::usable_board(
+        count,
+        writable,
+        sizes,
+        kinds,
+        curves,
+        functions,
+        made,
+        sets,
+        values,
+        blocks,
+        sums,
+    );
+    if !usable {
+        return Stored::Refused(Refusal::BoardUnusable);
+    }
+    curves::renew_all(curves, blocks, sums);
+    Stored::Done
 }

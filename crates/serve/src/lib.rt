@@ -43,12 +43,14 @@ fn looks_at_types(command: Command) -> bool
         Command::WriteRead => true,
         Command::Version => false,
         Command::ListCurves => false,
+        Command::ReadSum => false,
         Command::ListFunctions => false,
         Command::ReadVariable => false,
         Command::MakeGroup => false,
         Command::RemoveGroups => false,
         Command::ReadBlock => false,
         Command::WriteBlock => false,
+        Command::RenewSum => false,
         Command::RunFunction => false,
         Command::Unknown => false,
     }
@@ -75,13 +77,14 @@ fn carry_out(
     groups: &[u64],
     values: &mut [u8],
     blocks: &mut [u8],
+    sums: &mut [u8],
     message: &[u8],
 ) -> Regroup
-    requires { ⌜ SoundBoard (lentLayout (now sizes) writable (now curves) (now functions)) (lent (now values) (now blocks) (now groups)) ⌝ }
+    requires { ⌜ SoundBoard (lentLayout (now sizes) writable (now curves) (now functions)) (lent (now values) (now blocks) (now sums) (now groups)) ⌝ }
     requires { ⌜ Judged (lentLayout (now sizes) writable (now curves) (now functions)) (now groups) (now message) (verdict .command) (verdict .check) ⌝ }
     ensures { λ r. let l = lentLayout (now (sizes .entry)) writable (now (curves .entry)) (now (functions .entry)) in
-        let x = lent (now (values .entry)) (now (blocks .entry)) (now (groups .entry)) in
-        let y = lent (now (values .exit)) (now (blocks .exit)) (now (groups .entry)) in
+        let x = lent (now (values .entry)) (now (blocks .entry)) (now (sums .entry)) (now (groups .entry)) in
+        let y = lent (now (values .exit)) (now (blocks .exit)) (now (sums .exit)) (now (groups .entry)) in
         ⌜ CarriedOut l (now (message .entry)) (verdict .check) x r y ⌝ }
 {
     let command = verdict.command;
@@ -96,6 +99,7 @@ fn carry_out(
             groups,
             values,
             blocks,
+            sums,
             &message[3..],
         ),
         Check::Fail(_) => Regroup::Keep,
@@ -113,15 +117,16 @@ fn respond(
     groups: &[u64],
     values: &[u8],
     blocks: &[u8],
+    sums: &[u8],
     message: &[u8],
     reply: &mut [u8],
     at: usize,
 ) -> Spoken
     requires { let l = lentLayout (now sizes) writable (now curves) (now functions) in
-        ⌜ SoundBoard l (lent (now values) (now blocks) (now groups)) × (at + 4099 ≤ length (now reply)) ⌝ }
+        ⌜ SoundBoard l (lent (now values) (now blocks) (now sums) (now groups)) × (at + 4099 ≤ length (now reply)) ⌝ }
     requires { ⌜ Judged (lentLayout (now sizes) writable (now curves) (now functions)) (now groups) (now message) command v ⌝ }
     ensures { λ r. let l = lentLayout (now (sizes .entry)) writable (now (curves .entry)) (now (functions .entry)) in
-        let x = lent (now (values .entry)) (now (blocks .entry)) (now (groups .entry)) in
+        let x = lent (now (values .entry)) (now (blocks .entry)) (now (sums .entry)) (now (groups .entry)) in
         let says = said (asked l (x .groups) (now (message .entry))) v (held l x) in
         ⌜ Spoke true says (now (reply .entry)) at r (now (reply .exit)) ⌝ }
 {
@@ -135,6 +140,7 @@ fn respond(
             groups,
             values,
             blocks,
+            sums,
             &message[3..],
             reply,
             at,
@@ -158,6 +164,7 @@ fn quiet(command: Command, message: &[u8]) -> Spoken
         Command::ListGroups => Spoken::Nothing,
         Command::ShowGroup => Spoken::Nothing,
         Command::ListCurves => Spoken::Nothing,
+        Command::ReadSum => Spoken::Nothing,
         Command::ListFunctions => Spoken::Nothing,
         Command::ReadVariable => Spoken::Nothing,
         Command::ReadGroup => Spoken::Nothing,
@@ -170,6 +177,7 @@ fn quiet(command: Command, message: &[u8]) -> Spoken
         Command::RemoveGroups => Spoken::Nothing,
         Command::ReadBlock => Spoken::Nothing,
         Command::WriteBlock => Spoken::Nothing,
+        Command::RenewSum => Spoken::Nothing,
         Command::Unknown => Spoken::Nothing,
     }
 }
@@ -195,15 +203,16 @@ fn say(
     groups: &[u64],
     values: &[u8],
     blocks: &[u8],
+    sums: &[u8],
     message: &[u8],
     reply: &mut [u8],
     at: usize,
 ) -> Spoken
     requires { let l = lentLayout (now sizes) writable (now curves) (now functions) in
-        ⌜ SoundBoard l (lent (now values) (now blocks) (now groups)) × (at + 4099 ≤ length (now reply)) ⌝ }
+        ⌜ SoundBoard l (lent (now values) (now blocks) (now sums) (now groups)) × (at + 4099 ≤ length (now reply)) ⌝ }
     requires { ⌜ Judged (lentLayout (now sizes) writable (now curves) (now functions)) (now groups) (now message) (verdict .command) (verdict .check) ⌝ }
     ensures { λ r. let l = lentLayout (now (sizes .entry)) writable (now (curves .entry)) (now (functions .entry)) in
-        let x = lent (now (values .entry)) (now (blocks .entry)) (now (groups .entry)) in
+        let x = lent (now (values .entry)) (now (blocks .entry)) (now (sums .entry)) (now (groups .entry)) in
         let says = said (asked l (x .groups) (now (message .entry))) (verdict .check) (held l x) in
         ⌜ Spoke due says (now (reply .entry)) at r (now (reply .exit)) ⌝ }
 {
@@ -220,6 +229,7 @@ fn say(
             groups,
             values,
             blocks,
+            sums,
             message,
             reply,
             at,
@@ -239,16 +249,17 @@ fn fulfil(
     groups: &[u64],
     values: &mut [u8],
     blocks: &mut [u8],
+    sums: &mut [u8],
     message: &[u8],
     reply: &mut [u8],
     at: usize,
 ) -> Served
     requires { let l = lentLayout (now sizes) writable (now curves) (now functions) in
-        ⌜ SoundBoard l (lent (now values) (now blocks) (now groups)) × (at + 4099 ≤ length (now reply)) ⌝ }
+        ⌜ SoundBoard l (lent (now values) (now blocks) (now sums) (now groups)) × (at + 4099 ≤ length (now reply)) ⌝ }
     requires { ⌜ Judged (lentLayout (now sizes) writable (now curves) (now functions)) (now groups) (now message) (verdict .command) (verdict .check) ⌝ }
     ensures { λ r. let l = lentLayout (now (sizes .entry)) writable (now (curves .entry)) (now (functions .entry)) in
-        let x = lent (now (values .entry)) (now (blocks .entry)) (now (groups .entry)) in
-        let y = lent (now (values .exit)) (now (blocks .exit)) (now (groups .entry)) in
+        let x = lent (now (values .entry)) (now (blocks .entry)) (now (sums .entry)) (now (groups .entry)) in
+        let y = lent (now (values .exit)) (now (blocks .exit)) (now (sums .exit)) (now (groups .entry)) in
         let m = now (message .entry) in
         ⌜ Fulfilled due l m (verdict .check) x (now (reply .entry)) at (r .said) (r .regroup) (now (reply .exit)) y ⌝ }
 {
@@ -261,6 +272,7 @@ fn fulfil(
         groups,
         values,
         blocks,
+        sums,
         message,
     );
     let said = say(
@@ -273,6 +285,7 @@ fn fulfil(
         groups,
         values,
         blocks,
+        sums,
         message,
         reply,
         at,
@@ -290,17 +303,18 @@ pub fn serve(
     groups: &[u64],
     values: &mut [u8],
     blocks: &mut [u8],
+    sums: &mut [u8],
     message: &[u8],
     busy: u64,
     reply: &mut [u8],
     at: usize,
 ) -> Served
     requires { let l = typedLayout (now sizes) (now types) (now curves) (now functions) in
-        ⌜ SoundBoard l (lent (now values) (now blocks) (now groups)) × SoundTypes (now types) ⌝ }
+        ⌜ SoundBoard l (lent (now values) (now blocks) (now sums) (now groups)) × SoundTypes (now types) ⌝ }
     requires { ⌜ at + 4099 ≤ length (now reply) ⌝ }
     ensures { λ r. let l = typedLayout (now (sizes .entry)) (now (types .entry)) (now (curves .entry)) (now (functions .entry)) in
-        let x = lent (now (values .entry)) (now (blocks .entry)) (now (groups .entry)) in
-        let y = lent (now (values .exit)) (now (blocks .exit)) (now (groups .entry)) in
+        let x = lent (now (values .entry)) (now (blocks .entry)) (now (sums .entry)) (now (groups .entry)) in
+        let y = lent (now (values .exit)) (now (blocks .exit)) (now (sums .exit)) (now (groups .entry)) in
         ⌜ ServedAs due l busy (now (message .entry)) x (now (reply .entry)) at (r .said) (r .regroup) (now (reply .exit)) y ⌝ }
 {
     let command = judging::command_of(message);
@@ -325,6 +339,7 @@ pub fn serve(
         groups,
         values,
         blocks,
+        sums,
         message,
         reply,
         at,
