@@ -2,15 +2,18 @@
 use mathlib.Core.Path.{_≡_, refl, sym, ap, _∙_}
 use mathlib.Core.Bool.{Bool, true, false, not, _&&_, false≢true}
 use mathlib.Core.List.{List}
-use Prim.Native.Nat.{ℕ}
+use Prim.Native.Nat.{ℕ, _*_}
+use native.Mathlib.Omega.{arith}
 use lib.ListN.{length}
 use lib.Dec.{eqb}
+use mir.Syntax.{w64}
+use mir.Val.{Fits}
 use borrow.Author.Tests.{not-true, not-false, eq-eqb, eqb-true}
 use Rattle.bsmp.specs.Base.{sum}
-use Rattle.bsmp.specs.Board.{Table, layout, sizesOf, blockSizes, usableVariables, usableFunctions, usableGroups, usable}
+use Rattle.bsmp.specs.Board.{Table, layout, sizesOf, blockSizes, sumSizes, usableVariables, usableFunctions, usableGroups, usable}
 use Rattle.bsmp.specs.Store.{Lent, held}
 use Rattle.bsmp.proofs.Bools.{and-true, not-so}
-use Rattle.bsmp.proofs.Store.{curve-bytes}
+use Rattle.bsmp.proofs.Store.{curve-bytes, sum-bytes}
 use Rattle.rules.proofs.Totals.{total-usable, total-bytes}
 use Rattle.records.specs.declared.Records.{Records}
 use Rattle.records.specs.declared.Groups.{Groups}
@@ -18,15 +21,15 @@ use Rattle.rules.specs.declared.Total.{Total}
 use Rattle.records.specs.Lending.{recordsOf, curvesOf, functionsOf, groupsOf, tableOf, lent}
 use Rattle.rules.specs.Totals.{variablesTotal, curvesTotal}
 use Rattle.records.proofs.Lending.{record-count}
-use Rattle.records.proofs.Sound.{Sound, usable-sound, sound-usable}
+use Rattle.records.proofs.Sound.{Sound, usable-sound, sound-usable, curves-most}
 
 -- what is lent is unusable where one of its parts is, and usable where all are
-module _ (r : Records) (cs fs vs bs : List ℕ) (g : Groups) where
+module _ (r : Records) (cs fs vs bs ds : List ℕ) (g : Groups) where
   abbrev table : Table
   table = tableOf r cs fs
 
   abbrev lending : Lent
-  lending = lent vs bs (groupsOf g)
+  lending = lent vs bs ds (groupsOf g)
 
   abbrev whole : Bool
   whole = usable table (held (layout table) lending)
@@ -52,6 +55,16 @@ module _ (r : Records) (cs fs vs bs : List ℕ) (g : Groups) where
   pub board-blocks : (d : Total) → d ≡ curvesTotal (curvesOf cs) → not (d .usable) ≡ false → (d .bytes ≡ length bs → ⊥) → false ≡ whole
   board-blocks d e h n = refused (λ s. n (curve-total d e h ∙ sym (s .blocks)))
 
+  -- the sums' test goes by the number of curves, which are few where they are usable
+  pub few-sums : (d : Total) (n : ℕ) → d ≡ curvesTotal (curvesOf cs) → not (d .usable) ≡ false → n ≡ length (curvesOf cs) → Fits w64 (16 * n)
+  few-sums d n e h q = record { fits = omega (arith, curves-most (curvesOf cs) (sym (total-usable _ _ d e) ∙ not-false _ h)) }
+
+  all-sums : (n : ℕ) → n ≡ length (curvesOf cs) → 16 * n ≡ sum (sumSizes (curvesOf cs))
+  all-sums n q = ap (16 *_) q ∙ sym (sum-bytes (curvesOf cs))
+
+  pub board-sums : (n : ℕ) → n ≡ length (curvesOf cs) → (16 * n ≡ length ds → ⊥) → false ≡ whole
+  board-sums n q h = refused (λ s. h (all-sums n q ∙ sym (s .sums)))
+
   pub board-functions : (b : Bool) → b ≡ usableFunctions (functionsOf fs) → not b ≡ true → false ≡ whole
   board-functions b e h = refused (λ s. unless _ _ e h (s .functions))
 
@@ -67,7 +80,8 @@ module _ (r : Records) (cs fs vs bs : List ℕ) (g : Groups) where
   last true so never = sym (sound-usable table lending (so refl))
   last false so never = refused (never refl)
 
-  module _ (d : Total) (a b : Bool) (ed : d ≡ curvesTotal (curvesOf cs)) (hd : not (d .usable) ≡ false) (vd : d .bytes ≡ length bs)
+  module _ (d : Total) (n : ℕ) (a b : Bool) (ed : d ≡ curvesTotal (curvesOf cs)) (hd : not (d .usable) ≡ false) (vd : d .bytes ≡ length bs)
+      (en : n ≡ length (curvesOf cs)) (vn : 16 * n ≡ length ds)
       (ea : a ≡ usableFunctions (functionsOf fs)) (eb : b ≡ usableGroups (r .count) (groupsOf g)) where
     sound : usableVariables (recordsOf r) ≡ true → length vs ≡ sum (sizesOf (recordsOf r)) → a ≡ true → b ≡ true → Sound table lending
     sound hv vv ha hb = record {
@@ -75,6 +89,7 @@ module _ (r : Records) (cs fs vs bs : List ℕ) (g : Groups) where
       values = vv;
       curves = sym (total-usable _ _ d ed) ∙ not-false _ hd;
       blocks = sym vd ∙ curve-total d ed hd;
+      sums = sym vn ∙ all-sums n en;
       functions = sym ea ∙ ha;
       groups = sym (counted b eb) ∙ hb;
     }

@@ -31,7 +31,7 @@ use Rattle.bsmp.proofs.Bools.{or-false, and-true}
 use Rattle.bsmp.proofs.Accepted.{judge-case}
 use Rattle.bsmp.proofs.Lists.{map-set, map-map, every-last, length-upFrom}
 use Rattle.bsmp.proofs.Chain.{clear, clear-at, broken-at, first-case}
-use Rattle.bsmp.proofs.Store.{cut-join, lengths-cut}
+use Rattle.bsmp.proofs.Store.{cut-join, lengths-cut, sum-size}
 use Rattle.bsmp.proofs.Usable.{Usable, usable-parts, usable-by, usable-regrouped}
 use Rattle.bsmp.proofs.Marks.{marks-below, marks-some, at-number}
 
@@ -119,13 +119,7 @@ block-length t s u c k a b =
 
 pub sum-length : (t : Table) (s : State) → Usable t s → (c : CurveNumber) → c .0 < length (t .curves) → length (sumOf s c) ≡ 16
 sum-length t s u c h =
-    let n : length (s .sums) ≡ length (t .curves) = sym (length-map (s .sums) length) ∙ ap length (u .sums) ∙ length-map (t .curves) (λ x. 16) in
-    sym (List·getD-map length (s .sums) (c .0) []) ∙ ap (λ l. getD l (c .0) 0) (u .sums) ∙ sixteen (t .curves) (c .0) h
-  where
-    sixteen : (cs : List Curve) (i : ℕ) → i < length cs → getD (sumSizes cs) i 0 ≡ 16
-    sixteen [] i k = absurd (omega (arith, k))
-    sixteen (x ∷ cs) zero k = refl
-    sixteen (x ∷ cs) (suc i) k = sixteen cs i (omega (arith, k))
+    sym (List·getD-map length (s .sums) (c .0) []) ∙ ap (λ l. getD l (c .0) 0) (u .sums) ∙ sum-size (t .curves) (c .0) h
 
 drop-rest : (n m : ℕ) (p : List ℕ) → not (eqb (length p) (n + m)) ≡ false → length (drop n p) ≡ m
 drop-rest n m p h = let e : length p ≡ n + m = eqb-true _ _ (not-false _ h) in simp length-drop (omega arith)

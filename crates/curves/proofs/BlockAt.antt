@@ -43,7 +43,7 @@ module _ (cs : List Curve) (p : List ℕ) (c : CurveNumber) (h : c ≡ curveAt p
     before = q ∙ ap (λ (j : ℕ). curveBytes (take j cs)) (number cs p c h)
 
     room : b + k * x .size + x .size ≤ curveBytes cs
-    room = rw (before, w) (block-room cs (curveAt p 0 .0) (wordAt p 1) x (n .known) own below)
+    room = rw (before, w) (block-room cs (curveAt p 0 .0) x (n .known) own (wordAt p 1) below)
 
     pub placed-mul : Fits w64 (k * x .size)
     placed-mul = record { fits = omega (arith, room, curves-small cs u) }
@@ -53,9 +53,9 @@ module _ (cs : List Curve) (p : List ℕ) (c : CurveNumber) (h : c ≡ curveAt p
 
     pub placed : BlockAt cs p (record { at = b + k * x .size; size = x .size })
     placed = record {
-      place = block-inside cs (curveAt p 0 .0) (wordAt p 1) x (n .known) own below;
-      at = ap₂ (λ (y z : ℕ). y + z * x .size) before w ∙ sym (block-at cs (curveAt p 0 .0) (wordAt p 1) x (n .known) own below);
-      size = sym (block-size cs (curveAt p 0 .0) (wordAt p 1) x (n .known) own below);
+      place = block-inside cs (curveAt p 0 .0) x (n .known) own (wordAt p 1) below;
+      at = ap₂ (λ (y z : ℕ). y + z * x .size) before w ∙ sym (block-at cs (curveAt p 0 .0) x (n .known) own (wordAt p 1) below);
+      size = sym (block-size cs (curveAt p 0 .0) x (n .known) own (wordAt p 1) below);
       own = ap (λ (y : Curve). y .size) own;
       inside = rw (curve-bytes cs) room;
       small = rw own (curve-size cs u (curveAt p 0 .0) (n .known) .1);

@@ -2,3 +2,4 @@ pub mod Named
 pub mod BlockAt
 pub mod Listing
 pub mod Passes
+pub mod Sums

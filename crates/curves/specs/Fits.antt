@@ -1,7 +1,7 @@
 -- What the commands of curves ask of a board and of a payload, the block that a payload names, and the sums. Assumes nothing.
 use mathlib.Core.Path.{_≡_}
 use mathlib.Core.Bool.{true}
-use mathlib.Core.List.{List, [], _++_, map}
+use mathlib.Core.List.{List, [], map}
 use Prim.Native.Nat.{ℕ, _+_, _-_, _*_, _≤_, _<_}
 use lib.ListN.{length, take, drop, getD}
 use Rattle.md5.specs.Md5.{digest}
@@ -85,8 +85,8 @@ contentIn cs store c = join (take (curveOf (curvesOnly cs) c .blocks) (drop (blo
 pub record ContentAt (cs : List Curve) (c : CurveNumber) (x : Content) : Type 0 where
   pub inside : x .to ≤ sum (blockSizes cs)
   pub ordered : x .from ≤ x .to
-  pub holds : (store : List ℕ) → length store ≡ sum (blockSizes cs) → part store (x .from) (x .to - x .from) ≡ contentIn cs store c
+  pub holds : (store : List ℕ) → part store (x .from) (x .to - x .from) ≡ contentIn cs store c
 
--- the sum of each of the first n curves worked out, those of the others as they were
-abbrev pub freshTo : List Curve → (store sums : List ℕ) → ℕ → List (List ℕ)
-freshTo cs store sums n = map (λ c. digest (contentIn cs store (curve c))) (upFrom 0 n) ++ drop n (sumsIn cs sums)
+-- the sums of the first n curves, worked out
+abbrev pub freshSums : List Curve → (store : List ℕ) → ℕ → List (List ℕ)
+freshSums cs store n = map (λ c. digest (contentIn cs store (curve c))) (upFrom 0 n)

@@ -18,7 +18,7 @@ ghost use Rattle.copies.specs.Put.{put};
 ghost use Rattle.parts.specs.Parts.{curvesOnly, PayloadAt};
 ghost use Rattle.records.specs.Lending.{curvesOf};
 ghost use Rattle.curves.specs.Fits.{SoundCurves, BlockNamed, BlockRead, BlockFits, blocksIn, placeOf, namedBlock, BlockAt};
-ghost use Rattle.curves.specs.Fits.{SoundSums, sumsIn, sumAt, SumNamed, contentIn, ContentAt, freshTo};
+ghost use Rattle.curves.specs.Fits.{SoundSums, sumsIn, sumAt, SumNamed, contentIn, ContentAt, freshSums};
 
 // The number, in its curve, of the block that a payload names.
 fn block_number(payload: &[u8]) -> usize
@@ -186,7 +186,7 @@ pub fn renew_all(curves: &[u32], blocks: &[u8], sums: &mut [u8])
     requires { ⌜ SoundCurves (curvesOf (now curves)) (now blocks) ⌝ }
     requires { ⌜ SoundSums (curvesOf (now curves)) (now sums) ⌝ }
     ensures { λ _. let curves = curvesOf (now (curves .entry)) in
-        ⌜ sumsIn curves (now (sums .exit)) ≡ freshTo curves (now (blocks .entry)) (now (sums .entry)) (length curves) ⌝ }
+        ⌜ sumsIn curves (now (sums .exit)) ≡ freshSums curves (now (blocks .entry)) (length curves) ⌝ }
 {
     let n = records::curve_count(curves);
     let mut i = 0;

@@ -38,7 +38,7 @@ cut-fill ns s i d h k z =
     ∙ ap (λ (x : List ℕ). set (cut ns s) i (d ++ drop (length d) x)) (sym (value-part ns s i at h refl))
 
 -- where block k of curve c starts, as the code works it out: the curves before it, and k whole blocks
-sum-replicate : (n x : ℕ) → sum (replicate n x) ≡ n * x
+pub sum-replicate : (n x : ℕ) → sum (replicate n x) ≡ n * x
 unfolding sum
 sum-replicate zero x = omega arith
 sum-replicate (suc n) x = ap (λ (y : ℕ). x + y) (sum-replicate n x) ∙ omega arith

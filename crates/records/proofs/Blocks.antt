@@ -5,8 +5,9 @@ use mathlib.Core.List.{List, [], _∷_, _++_, map, map-append, append-assoc}
 use Prim.Native.Nat.{ℕ, suc, _+_, _*_, _≤_, _<_}
 use native.Mathlib.Omega.{arith}
 use native.Mathlib.Numerals.{add-one}
+use native.Mathlib.Nat.{mul-comm}
 use lib.ListN.{length, take, drop, getD, replicate, length-append, length-replicate, getD-replicate, take-append-drop, List·getD-append}
-use lib.Seq.{take-suc, split-at, getD-append-add}
+use lib.Seq.{take-at, take-suc, split-at, drop-append-add, getD-append-add}
 use mir.Syntax.{w64}
 use mir.Val.{Fits}
 use Rattle.bsmp.specs.Base.{sum}
@@ -15,7 +16,7 @@ use Rattle.bsmp.specs.Store.{start}
 use Rattle.bsmp.specs.declared.Curve.{Curve}
 use Rattle.bsmp.proofs.Store.{curve-bytes}
 use Rattle.lists.proofs.Sum.{total-append, total-within}
-use Rattle.lists.proofs.Blocks.{block-start}
+use Rattle.lists.proofs.Blocks.{sum-replicate, block-start}
 use Rattle.records.specs.Lending.{curveBytes}
 use Rattle.records.proofs.Sound.{curves-small}
 
@@ -32,17 +33,17 @@ module _ (cs : List Curve) (n i s : ℕ) (x : Curve) (u : usableCurves cs ≡ tr
       rw (add-one, take-suc cs i blankCurve, e) (bytes-append (take i cs) (getD cs i blankCurve ∷ [])) in
       omega (arith, o)
 
-  within : s + x .size * x .blocks ≤ 65536
-  within =
+  pub before-within : s + x .size * x .blocks ≤ curveBytes cs
+  before-within =
       let o : curveBytes (take (i + 1) cs) + curveBytes (drop (i + 1) cs) ≡ curveBytes cs =
       sym (bytes-append (take (i + 1) cs) (drop (i + 1) cs)) ∙ ap curveBytes (take-append-drop (i + 1) cs) in
-      omega (arith, o, before-next, curves-small cs u)
+      omega (arith, o, before-next)
 
   pub before-mul : Fits w64 (x .size * x .blocks)
-  before-mul = record { fits = omega (arith, within) }
+  before-mul = record { fits = omega (arith, before-within, curves-small cs u) }
 
   pub before-add : Fits w64 (s + x .size * x .blocks)
-  before-add = record { fits = omega (arith, within) }
+  before-add = record { fits = omega (arith, before-within, curves-small cs u) }
 
 pub before-start : 0 ≡ curveBytes []
 unfolding sum
@@ -61,40 +62,59 @@ unfolding sum
 block-count [] = refl
 block-count (c ∷ cs) = length-append (replicate (c .blocks) (c .size)) (blockSizes cs) ∙ ap₂ _+_ (length-replicate (c .blocks) (c .size)) (block-count cs)
 
--- block k of curve c, whose record is x; over the curves alone, as `blockPlace l` computes for a layout l of them
-module _ (cs : List Curve) (c k : ℕ) (x : Curve) (h : c < length cs) (e : x ≡ getD cs c blankCurve) (b : k < x .blocks) where
+-- curve c, whose record is x, and its block k; over the curves alone, as `blockPlace l` computes for a layout l of them
+module _ (cs : List Curve) (c : ℕ) (x : Curve) (h : c < length cs) (e : x ≡ getD cs c blankCurve) where
   abbrev before : List ℕ
   before = blockSizes (take c cs)
 
   abbrev own : List ℕ
   own = replicate (x .blocks) (x .size)
 
-  abbrev place : ℕ
-  place = sum (map (λ y. y .blocks) (take c cs)) + k
+  abbrev place : ℕ → ℕ
+  place k = sum (map (λ y. y .blocks) (take c cs)) + k
 
   split : blockSizes cs ≡ before ++ (own ++ blockSizes (drop (suc c) cs))
   split = rw e (ap blockSizes (split-at cs c blankCurve h) ∙ blocks-append (take c cs) _)
 
-  placed : place ≡ length before + k
-  placed = ap (_+ k) (sym (block-count (take c cs)))
+  placed : (k : ℕ) → place k ≡ length before + k
+  placed k = ap (_+ k) (sym (block-count (take c cs)))
 
-  -- where it starts: after the curves before it, and k whole blocks
-  pub block-at : start (blockSizes cs) place ≡ curveBytes (take c cs) + k * x .size
-  block-at =
-      ap₂ (λ (i : ℕ) (ns : List ℕ). sum (take i ns)) placed split
-      ∙ block-start before (blockSizes (drop (suc c) cs)) k (x .blocks) (x .size) (omega arith)
-      ∙ ap (_+ k * x .size) (curve-bytes (take c cs))
+  -- the whole curve: where it starts, how many bytes it has, and that its blocks are there
+  pub curve-start : start (blockSizes cs) (place 0) ≡ curveBytes (take c cs)
+  curve-start =
+      ap₂ (λ (i : ℕ) (ns : List ℕ). sum (take i ns)) (placed 0) split
+      ∙ block-start before (blockSizes (drop (suc c) cs)) 0 (x .blocks) (x .size) (omega arith)
+      ∙ omega (arith, curve-bytes (take c cs))
 
-  pub block-size : getD (blockSizes cs) place 0 ≡ x .size
-  block-size =
-      ap₂ (λ (i : ℕ) (ns : List ℕ). getD ns i 0) placed split
-      ∙ getD-append-add before _ k 0
-      ∙ List·getD-append own _ 0 k (rw (length-replicate (x .blocks) (x .size)) b)
-      ∙ getD-replicate (x .blocks) k (x .size) 0 b
+  pub curve-own : sum (take (x .blocks) (drop (place 0) (blockSizes cs))) ≡ x .size * x .blocks
+  curve-own =
+      ap₂ (λ (i : ℕ) (ns : List ℕ). sum (take (x .blocks) (drop i ns))) (placed 0) split
+      ∙ ap (λ (ns : List ℕ). sum (take (x .blocks) ns)) (drop-append-add before (own ++ blockSizes (drop (suc c) cs)) 0)
+      ∙ ap sum (take-at own (blockSizes (drop (suc c) cs)) (x .blocks) (length-replicate (x .blocks) (x .size)))
+      ∙ sum-replicate (x .blocks) (x .size)
+      ∙ mul-comm (x .blocks) (x .size)
 
-  pub block-inside : place < length (blockSizes cs)
-  block-inside = rw (placed, split, length-append, length-append, length-replicate) (omega arith)
+  pub curve-inside : place 0 + x .blocks ≤ length (blockSizes cs)
+  curve-inside = rw (placed 0, split, length-append, length-append, length-replicate) (omega arith)
 
-  -- and the store has room for it
-  pub block-room : (curveBytes (take c cs) + k * x .size) + x .size ≤ curveBytes cs
-  block-room = omega (arith, total-within (blockSizes cs) place block-inside, block-at, block-size, curve-bytes cs)
+  module _ (k : ℕ) (b : k < x .blocks) where
+    -- where it starts: after the curves before it, and k whole blocks
+    pub block-at : start (blockSizes cs) (place k) ≡ curveBytes (take c cs) + k * x .size
+    block-at =
+        ap₂ (λ (i : ℕ) (ns : List ℕ). sum (take i ns)) (placed k) split
+        ∙ block-start before (blockSizes (drop (suc c) cs)) k (x .blocks) (x .size) (omega arith)
+        ∙ ap (_+ k * x .size) (curve-bytes (take c cs))
+
+    pub block-size : getD (blockSizes cs) (place k) 0 ≡ x .size
+    block-size =
+        ap₂ (λ (i : ℕ) (ns : List ℕ). getD ns i 0) (placed k) split
+        ∙ getD-append-add before _ k 0
+        ∙ List·getD-append own _ 0 k (rw (length-replicate (x .blocks) (x .size)) b)
+        ∙ getD-replicate (x .blocks) k (x .size) 0 b
+
+    pub block-inside : place k < length (blockSizes cs)
+    block-inside = rw (placed k, split, length-append, length-append, length-replicate) (omega arith)
+
+    -- and the store has room for it
+    pub block-room : (curveBytes (take c cs) + k * x .size) + x .size ≤ curveBytes cs
+    block-room = omega (arith, total-within (blockSizes cs) (place k) block-inside, block-at, block-size, curve-bytes cs)

@@ -7,7 +7,7 @@ use lib.Dec.{leb}
 use lib.ListN.{length, getD}
 use borrow.Author.Tests.{leb-true, ltb-true}
 use Rattle.bsmp.specs.Base.{sum, every}
-use Rattle.bsmp.specs.Board.{Table, blankCurve, blankFunction, layout, sizesOf, blockSizes, usableVariable, variableRules, usableVariables, usableCurve, curveRules, usableCurves, usableFunctions, usableGroups, usable}
+use Rattle.bsmp.specs.Board.{Table, blankCurve, blankFunction, layout, sizesOf, blockSizes, sumSizes, usableVariable, variableRules, usableVariables, usableCurve, curveRules, usableCurves, usableFunctions, usableGroups, usable}
 use Rattle.bsmp.specs.Store.{Lent, held}
 use Rattle.bsmp.specs.declared.Variable.{Variable}
 use Rattle.bsmp.specs.declared.Curve.{Curve}
@@ -24,6 +24,7 @@ pub record Sound (t : Table) (x : Lent) : Type 0 where
   pub values : length (x .values) ≡ sum (sizesOf (t .variables))
   pub curves : usableCurves (t .curves) ≡ true
   pub blocks : length (x .blocks) ≡ sum (blockSizes (t .curves))
+  pub sums : length (x .sums) ≡ sum (sumSizes (t .curves))
   pub functions : usableFunctions (t .functions) ≡ true
   pub groups : usableGroups (length (t .variables)) (x .groups) ≡ true
 
@@ -35,6 +36,7 @@ usable-sound t x u =
       values = store-length (sizesOf (t .variables)) (x .values) (p .values);
       curves = p .curves;
       blocks = store-length (blockSizes (t .curves)) (x .blocks) (p .blocks);
+      sums = store-length (sumSizes (t .curves)) (x .sums) (p .sums);
       functions = p .functions;
       groups = p .groups;
     }
@@ -45,6 +47,7 @@ sound-usable t x s = usable-whole t (held (layout t) x) (record {
   values = lengths-cut (sizesOf (t .variables)) (x .values) (s .values);
   curves = s .curves;
   blocks = lengths-cut (blockSizes (t .curves)) (x .blocks) (s .blocks);
+  sums = lengths-cut (sumSizes (t .curves)) (x .sums) (s .sums);
   functions = s .functions;
   groups = s .groups;
 })
