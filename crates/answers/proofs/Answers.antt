@@ -7,17 +7,19 @@ use native.Mathlib.Omega.{arith}
 use lib.ListN.{length, drop}
 use Rattle.bsmp.specs.Base.{byteAt}
 use Rattle.bsmp.specs.Board.{Layout, State}
-use Rattle.bsmp.specs.Message.{functionAt, line, Said, replies, runs, spoken}
+use Rattle.bsmp.specs.Message.{curveAt, functionAt, line, Said, replies, runs, spoken}
+use Rattle.bsmp.specs.Store.{Lent, held}
 use Rattle.bsmp.specs.declared.Curve.{Curve}
 use Rattle.bsmp.specs.declared.Function.{Function}
 use Rattle.bsmp.specs.declared.Command.{Command}
-use Rattle.bsmp.specs.declared.Command.the-variants.{ShowGroup, ReadVariable, ReadGroup, WriteRead, ReadBlock, RunFunction}
+use Rattle.bsmp.specs.declared.Command.the-variants.{ShowGroup, ReadSum, ReadVariable, ReadGroup, WriteRead, ReadBlock, RunFunction}
 use Rattle.copies.proofs.Put.{put-nil}
 use Rattle.parts.specs.Parts.{layoutOf, Passed, PayloadAt}
 use Rattle.variables.proofs.Passes as variables
 use Rattle.groups.specs.Promises.{GroupKnown}
 use Rattle.groups.proofs.Pass as groups
-use Rattle.curves.specs.Fits.{BlockRead}
+use Rattle.curves.specs.Fits.{BlockRead, SoundSums, SumNamed, sumAt}
+use Rattle.curves.proofs.Sums.{sum-named, sum-is}
 use Rattle.curves.proofs.Passes as curves
 use Rattle.functions.proofs.Passes as functions
 use Rattle.answers.specs.Answers.{spokenOf, Spoke}
@@ -50,6 +52,9 @@ module _ (ns : List ℕ) (w : ℕ) (cs : List Curve) (fs : List Function) (gs p 
   pub block-read-needs : k ≡ ReadBlock → Passes → BlockRead cs p
   block-read-needs e h = curves.read-fits ns w cs fs gs p (rw e at h)
 
+  pub sum-needs : (ds : List ℕ) → SoundSums cs ds → k ≡ ReadSum → Passes → SumNamed ds p
+  sum-needs ds z e h = sum-named cs ds p z (curves.sum-read ns w cs fs gs p (rw e at h))
+
   pub run-needs : k ≡ RunFunction → Passes → 0 < length p
   run-needs e h = functions.run-some ns w cs fs gs p (rw e at h)
 
@@ -71,3 +76,11 @@ module _ (l : Layout) (gs p : List ℕ) (k : Command) (state : State) (r : List 
 
   pub answer-run : s ≡ spokenOf true (runs (functionAt p 0) (drop 1 p)) → says c ≡ runs (functionAt p 0) (drop 1 p) → Spoke true (says k) r at s r
   answer-run q f = rw (e, f) (record { said = q; written = sym (put-nil r at); short = omega arith })
+
+-- a sum, which is told by its place among the lent ones
+pub answer-sum : (l : Layout) (gs p : List ℕ) (k : Command) (x : Lent) (r : List ℕ) (at : ℕ) (s : Spoken) (r′ : List ℕ) (n : ℕ) → k ≡ ReadSum → Passed l gs p k
+    → PayloadAt r at (sumAt (x .sums) (curveAt p 0)) n r′ → s ≡ Reply 0x0B n → Spoke true (spoken (line l gs p k .answer) (held l x)) r at s r′
+unfolding line spoken
+answer-sum l gs p k x r at s r′ n e h q f =
+    answer-told l gs p k (held l x) r at s r′ ReadSum e (sumAt (x .sums) (curveAt p 0)) 0x0B n q f
+    (ap (replies 0x0B) (sum-is (l .curves) (x .sums) (curveAt p 0) (curves.sum-read (l .sizes) (l .writable) (l .curves) (l .functions) gs p (rw e at h) .known)))

@@ -4,26 +4,28 @@ use mathlib.Core.List.{List, [], _∷_, _++_, map}
 use Prim.Native.Nat.{ℕ, _<_}
 use native.Mathlib.Omega.{arith}
 use lib.ListN.{length, drop, set, getD}
+use Rattle.md5.specs.Md5.{digest}
 use Rattle.bsmp.specs.Base.{cut, byteAt}
 use Rattle.bsmp.specs.Codes.{operationOf}
-use Rattle.bsmp.specs.Board.{Layout, State, sizeOf, members, withValues, withBlocks, withGroups}
-use Rattle.bsmp.specs.Message.{nothing, edit, fill, regroup, variableAt, groupAt, line, edited, filled, after}
+use Rattle.bsmp.specs.Board.{Layout, State, sizeOf, members, withValues, withBlocks, withSums, withGroups, contentOf}
+use Rattle.bsmp.specs.Message.{nothing, edit, fill, renew, regroup, variableAt, groupAt, curveAt, line, edited, filled, after}
 use Rattle.bsmp.specs.Store.{Lent, held}
 use Rattle.bsmp.specs.declared.VariableNumber.{VariableNumber}
+use Rattle.bsmp.specs.declared.CurveNumber.{CurveNumber}
 use Rattle.bsmp.specs.declared.Curve.{Curve}
 use Rattle.bsmp.specs.declared.Function.{Function}
 use Rattle.bsmp.specs.declared.Operation.{Operation}
 use Rattle.bsmp.specs.declared.Operation.the-variants.{Replace}
 use Rattle.bsmp.specs.declared.Command.{Command}
-use Rattle.bsmp.specs.declared.Command.the-variants.{WriteVariable, WriteGroup, MaskVariable, MaskGroup, WriteRead, MakeGroup, RemoveGroups, WriteBlock}
+use Rattle.bsmp.specs.declared.Command.the-variants.{WriteVariable, WriteGroup, MaskVariable, MaskGroup, WriteRead, MakeGroup, RemoveGroups, WriteBlock, RenewSum}
 use Rattle.sets.specs.Promises.{Below, Named}
 use Rattle.parts.specs.Parts.{layoutOf, variablesOnly, Passed}
-use Rattle.records.specs.Lending.{lentValues, lentBlocks}
+use Rattle.records.specs.Lending.{lentValues, lentBlocks, lentSums}
 use Rattle.variables.specs.Fits.{OneFits}
 use Rattle.variables.proofs.Passes as variables
 use Rattle.groups.specs.Promises.{GroupFits}
 use Rattle.groups.proofs.Pass as groups
-use Rattle.curves.specs.Fits.{BlockFits, blocksIn, placeOf, namedBlock}
+use Rattle.curves.specs.Fits.{BlockFits, CurveNamed, blocksIn, placeOf, namedBlock, sumsIn, contentIn}
 use Rattle.curves.proofs.Passes as curves
 use Rattle.judging.specs.Judging.{SoundBoard}
 use Rattle.changes.specs.Changes.{regrouped, removal, LeftAs, ChangedBy}
@@ -71,6 +73,15 @@ module _ (ns : List ℕ) (w : ℕ) (cs : List Curve) (fs : List Function) (gs p 
   pub block-needs : k ≡ WriteBlock → Passes → BlockFits cs p
   block-needs e h = curves.write-fits ns w cs fs gs p (as-command _ _ _ _ WriteBlock e h)
 
+  named-curve : k ≡ RenewSum → Passes → CurveNamed cs p
+  named-curve e h = curves.sum-renewed ns w cs fs gs p (as-command _ _ _ _ RenewSum e h)
+
+  pub renew-some : k ≡ RenewSum → Passes → 0 < length p
+  renew-some e h = named-curve e h .some
+
+  pub renew-known : (c : CurveNumber) → c ≡ curveAt p 0 → k ≡ RenewSum → Passes → c .0 < length cs
+  renew-known c f e h = rw f (named-curve e h .known)
+
   pub make-needs : (x : Lent) → SoundBoard (layoutOf ns w cs fs) x → k ≡ MakeGroup → Passes → Below 64 p
   make-needs x s e h = groups.make-below ns w cs fs gs p (as-command _ _ _ _ MakeGroup e h) (s .variables .few)
 
@@ -82,7 +93,7 @@ module _ (l : Layout) (x : Lent) where
   pub all-kept : LeftAs l (held l x) Keep x
   all-kept = stays (held l x) x refl
 
-  -- a change that leaves all as it was, one of the values alone, one of the blocks, and one of the made groups
+  -- a change that leaves all as it was, one of the values alone, one of the blocks, one of the sums, and one of the made groups
   kept : ChangedBy l x nothing Keep x
   unfolding after
   kept = record { leaves = all-kept }
@@ -97,6 +108,11 @@ module _ (l : Layout) (x : Lent) where
       → ChangedBy l x (fill k d) Keep (lentBlocks x bs)
   unfolding after
   block-filled k d bs h = record { leaves = stays _ (lentBlocks x bs) (ap (withBlocks (held l x)) h) }
+
+  sum-renewed : (c : CurveNumber) (k n : ℕ) (ds : List ℕ)
+      → sumsIn (l .curves) ds ≡ set (sumsIn (l .curves) (x .sums)) (c .0) (digest (contentOf (held l x) k n)) → ChangedBy l x (renew c k n) Keep (lentSums x ds)
+  unfolding after
+  sum-renewed c k n ds h = record { leaves = stays _ (lentSums x ds) (ap (withSums (held l x)) h) }
 
   groups-made : (r : Regroup) (gs : List ℕ) → regrouped r (x .groups) ≡ gs → (r ≡ Remove → 0 < length (x .groups)) → ChangedBy l x (regroup gs) r x
   unfolding after
@@ -149,6 +165,11 @@ module _ (l : Layout) (x : Lent) where
         → Changed Keep (lentBlocks x bs)
     unfolding line
     block-written bs e h = rw e (block-filled _ _ bs h)
+
+    pub sum-worked : (c : CurveNumber) (ds : List ℕ) → k ≡ RenewSum → c ≡ curveAt p 0
+        → sumsIn (l .curves) ds ≡ set (sumsIn (l .curves) (x .sums)) (c .0) (digest (contentIn (l .curves) (x .blocks) c)) → Changed Keep (lentSums x ds)
+    unfolding line
+    sum-worked c ds e f h = rw e (sum-renewed _ _ _ ds (rw f at h))
 
     -- the made groups: one more, or none
     pub group-made : (m : ℕ) → k ≡ MakeGroup → Passed l (x .groups) p k → Named p m → Changed (Make m) x

@@ -6,7 +6,7 @@ use Prim.Native.Nat.{ℕ, _+_, _<_}
 use native.Mathlib.Omega.{arith}
 use lib.ListN.{length, getD, length-append}
 use lib.Seq.{getD-append-add}
-use Rattle.bsmp.specs.Board.{Layout, State, blockSizes}
+use Rattle.bsmp.specs.Board.{Layout, State, blockSizes, sumSizes}
 use Rattle.bsmp.specs.Store.{Lent}
 use Rattle.bsmp.proofs.Store.{cut-unique}
 use Rattle.changes.specs.Changes.{regrouped, LeftAs}
@@ -43,7 +43,9 @@ left-unique l s gs r r′ y y′ g g′ h k =
     ap (regrouped r) (sym g) ∙ ap (λ (x : State). x .groups) (h .holds ∙ sym (k .holds)) ∙ ap (regrouped r′) g′ in
     let vs : y .values ≡ y′ .values = cut-unique (l .sizes) (s .values) (y .values) (y′ .values) (ap (λ (x : State). x .values) (h .holds)) (ap (λ (x : State). x .values) (k .holds)) in
     let bs : y .blocks ≡ y′ .blocks =
-    cut-unique (blockSizes (l .curves)) (s .blocks) (y .blocks) (y′ .blocks) (ap (λ (x : State). x .blocks) (h .holds)) (ap (λ (x : State). x .blocks) (k .holds)) in (
+    cut-unique (blockSizes (l .curves)) (s .blocks) (y .blocks) (y′ .blocks) (ap (λ (x : State). x .blocks) (h .holds)) (ap (λ (x : State). x .blocks) (k .holds)) in
+    let ds : y .sums ≡ y′ .sums =
+    cut-unique (sumSizes (l .curves)) (s .sums) (y .sums) (y′ .sums) (ap (λ (x : State). x .sums) (h .holds)) (ap (λ (x : State). x .sums) (k .holds)) in (
       regroup-unique gs r r′ (λ q. rw (← g) (h .some-removed q)) (λ q. rw (← g′) (k .some-removed q)) e,
-      λ i. record { values = vs i; blocks = bs i; groups = (g ∙ sym g′) i },
+      λ i. record { values = vs i; blocks = bs i; sums = ds i; groups = (g ∙ sym g′) i },
     )

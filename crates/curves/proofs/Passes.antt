@@ -10,12 +10,12 @@ use Rattle.bsmp.specs.Message.{line, testsOf}
 use Rattle.bsmp.specs.declared.Curve.{Curve}
 use Rattle.bsmp.specs.declared.Function.{Function}
 use Rattle.bsmp.specs.declared.Command.{Command}
-use Rattle.bsmp.specs.declared.Command.the-variants.{ReadBlock, WriteBlock}
+use Rattle.bsmp.specs.declared.Command.the-variants.{ReadSum, ReadBlock, WriteBlock, RenewSum}
 use Rattle.bsmp.proofs.Chain.{broken-at, clear-at}
 use Rattle.parts.specs.Parts.{layoutOf, Passed}
 use Rattle.parts.proofs.Passed.{passed-clear}
 use Rattle.records.proofs.Bounds.{inside}
-use Rattle.curves.specs.Fits.{namedCurve, BlockRead, BlockFits}
+use Rattle.curves.specs.Fits.{namedCurve, BlockRead, BlockFits, CurveNamed}
 
 module _ (ns : List ℕ) (w : ℕ) (cs : List Curve) (fs : List Function) (gs p : List ℕ) where
   -- test j of the command passed
@@ -49,3 +49,15 @@ module _ (ns : List ℕ) (w : ℕ) (cs : List Curve) (fs : List Function) (gs p 
         some = omega arith;
         fits = omega arith;
       }
+
+  pub sum-read : Passed (layoutOf ns w cs fs) gs p ReadSum → CurveNamed cs p
+  unfolding line
+  sum-read h =
+      let e : length p ≡ 1 = eqb-true _ _ (not-false _ (passed-at ReadSum h 0)) in
+      record { some = omega arith; known = ltb-true _ _ (not-false _ (passed-at ReadSum h 1)) }
+
+  pub sum-renewed : Passed (layoutOf ns w cs fs) gs p RenewSum → CurveNamed cs p
+  unfolding line
+  sum-renewed h =
+      let e : length p ≡ 1 = eqb-true _ _ (not-false _ (passed-at RenewSum h 0)) in
+      record { some = omega arith; known = ltb-true _ _ (not-false _ (passed-at RenewSum h 1)) }

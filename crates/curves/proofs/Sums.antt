@@ -28,7 +28,7 @@ use Rattle.records.specs.Lending.{curveBytes}
 use Rattle.records.proofs.Sound.{curves-most, curves-small}
 use Rattle.records.proofs.Blocks.{before-next, before-within, curve-start, curve-own, curve-inside}
 use Rattle.curves.specs.declared.Content.{Content}
-use Rattle.curves.specs.Fits.{SoundSums, blocksIn, sumsIn, sumAt, SumNamed, contentIn, ContentAt, freshSums}
+use Rattle.curves.specs.Fits.{SoundSums, CurveNamed, blocksIn, sumsIn, sumAt, SumNamed, contentIn, ContentAt, freshSums}
 
 -- what a curve holds, as code works its place out: x is the curve's record, b the bytes of the curves before it
 module _ (cs : List Curve) (c : CurveNumber) (x : Curve) (b : ℕ) (u : usableCurves cs ≡ true) (h : c .0 < length cs) (e : x ≡ getD cs (c .0) blankCurve)
@@ -145,7 +145,10 @@ sum-told s p c r r′ at e h w = record {
   short = omega arith;
 }
 
--- and that it is the curve's
+-- where it stands, and that it is the curve's
+pub sum-named : (cs : List Curve) (s p : List ℕ) → SoundSums cs s → CurveNamed cs p → SumNamed s p
+sum-named cs s p z h = record { some = h .some; inside = omega (arith, h .known, z .exact, sum-bytes cs) }
+
 pub sum-is : (cs : List Curve) (s : List ℕ) (c : CurveNumber) → c .0 < length cs → getD (sumsIn cs s) (c .0) [] ≡ sumAt s c
 sum-is cs s c h =
     value-part (sumSizes cs) s (c .0) (16 * c .0) (rw (sixteens cs) h) (sym (sum-start cs (c .0) (omega arith)))

@@ -72,7 +72,12 @@ sumsIn cs sums = cut (sumSizes cs) sums
 abbrev pub sumAt : (sums : List ℕ) → CurveNumber → List ℕ
 sumAt sums c = part sums (16 * c .0) 16
 
--- a payload names a curve whose sum stands among these: what a pass of 0A says
+-- a payload names a curve: what a pass of 0A and of 42 says
+pub record CurveNamed (cs : List Curve) (payload : List ℕ) : Type 0 where
+  pub some : 0 < length payload
+  pub known : curveAt payload 0 .0 < length cs
+
+-- so its sum stands among these
 pub record SumNamed (sums payload : List ℕ) : Type 0 where
   pub some : 0 < length payload
   pub inside : 16 * byteAt payload 0 + 16 ≤ length sums

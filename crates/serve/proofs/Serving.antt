@@ -5,10 +5,10 @@ use mathlib.Core.List.{List}
 use Prim.Native.Nat.{ℕ, _-_, _≤_}
 use borrow.Rule.Slice.PartMut.{midOf}
 use lib.ListN.{length}
-use Rattle.bsmp.specs.Board.{Layout, State, withValues, withBlocks}
+use Rattle.bsmp.specs.Board.{Layout, State, withGroups}
 use Rattle.bsmp.specs.Base.{byteAt}
 use Rattle.bsmp.specs.Codes.{commandOf, errorCode}
-use Rattle.bsmp.specs.Message.{Answer, say, tell, show, call, Line, line, asked, judge, Said, spoken, said, stateAfter, carried, handled}
+use Rattle.bsmp.specs.Message.{Answer, say, tell, show, attest, call, Line, line, asked, judge, Said, spoken, said, stateAfter, carried, handled}
 use Rattle.bsmp.specs.Store.{Lent, held}
 use Rattle.bsmp.specs.declared.WireError.{WireError}
 use Rattle.bsmp.specs.declared.Command.{Command}
@@ -20,7 +20,7 @@ use Rattle.records.specs.Lending.{lent}
 use Rattle.variables.proofs.One.{sound-kept}
 use Rattle.judging.specs.Judging.{SoundBoard}
 use Rattle.judging.proofs.Judging.{judged-long, judged-passed}
-use Rattle.changes.specs.Changes.{LeftAs, ChangedBy}
+use Rattle.changes.specs.Changes.{regrouped, LeftAs, ChangedBy}
 use Rattle.changes.specs.declared.Regroup.{Regroup}
 use Rattle.changes.specs.declared.Regroup.the-variants.{Keep}
 use Rattle.changes.proofs.Changes.{all-kept}
@@ -67,25 +67,27 @@ module _ (l : Layout) (gs m : List ℕ) (v : Check) (s : State) (r : List ℕ) (
   respond-fail e c h f q = rw (h, ← f) (done-said c r at t q)
 
 -- what is said doesn't look at the groups of the state
-spoken-alike : (a : Answer) (s s′ : State) → s .values ≡ s′ .values → s .blocks ≡ s′ .blocks → spoken a s ≡ spoken a s′
+spoken-alike : (a : Answer) (s : State) (gs : List ℕ) → spoken a s ≡ spoken a (withGroups s gs)
 unfolding spoken
-spoken-alike (say c p) s s′ e f = refl
-spoken-alike (tell c is) s s′ e f = ap (λ v. spoken (tell c is) (withValues s v)) e
-spoken-alike (show c front k) s s′ e f = ap (λ b. spoken (show c front k) (withBlocks s b)) f
-spoken-alike (call g i) s s′ e f = refl
+spoken-alike (say c p) s gs = refl
+spoken-alike (tell c is) s gs = refl
+spoken-alike (show c front k) s gs = refl
+spoken-alike (attest c n) s gs = refl
+spoken-alike (call g i) s gs = refl
 
-said-alike : (l : Line) (v : Check) (s s′ : State) → s .values ≡ s′ .values → s .blocks ≡ s′ .blocks → said l v s ≡ said l v s′
+said-alike : (l : Line) (v : Check) (s : State) (gs : List ℕ) → said l v s ≡ said l v (withGroups s gs)
 unfolding said
-said-alike l (Fail x) s s′ e f = refl
-said-alike l Pass s s′ e f = spoken-alike (l .answer) s s′ e f
+said-alike l (Fail x) s gs = refl
+said-alike l Pass s gs = spoken-alike (l .answer) s gs
 
 -- the board is as sound after a change of its stores
-pub still-sound : (l : Layout) (vs bs gs vs′ bs′ : List ℕ) → SoundBoard l (lent vs bs gs) → length vs′ ≡ length vs → length bs′ ≡ length bs
-    → SoundBoard l (lent vs′ bs′ gs)
-still-sound l vs bs gs vs′ bs′ h e f = record {
+pub still-sound : (l : Layout) (vs bs ds gs vs′ bs′ ds′ : List ℕ) → SoundBoard l (lent vs bs ds gs) → length vs′ ≡ length vs → length bs′ ≡ length bs
+    → length ds′ ≡ length ds → SoundBoard l (lent vs′ bs′ ds′ gs)
+still-sound l vs bs ds gs vs′ bs′ ds′ h e f d = record {
   variables = sound-kept (l .sizes) vs vs′ (h .variables) e;
   sizes = h .sizes;
   curves = record { usable = h .curves .usable; exact = f ∙ h .curves .exact };
+  sums = record { exact = d ∙ h .sums .exact };
   functions = h .functions;
   groups = h .groups;
 }
@@ -111,7 +113,7 @@ served due l busy m k x r at v g y s r′ q f =
     let h : LeftAs l (stateAfter (asked l (x .groups) m) v (held l x)) g y = f .carried .leaves in
     let s′ : State = stateAfter (asked l (x .groups) m) v (held l x) in
     let e : said (asked l (x .groups) m) v (held l y) ≡ said (asked l (x .groups) m) v s′ =
-    said-alike (asked l (x .groups) m) v (held l y) s′ (ap (λ u. u .values) (h .holds)) (ap (λ u. u .blocks) (h .holds)) in
+    said-alike (asked l (x .groups) m) v (held l y) (regrouped g (y .groups)) ∙ ap (said (asked l (x .groups) m) v) (h .holds) in
     let w : Spoke due (said (asked l (x .groups) m) v s′) r at s r′ = subst (λ z. Spoke due z r at s r′) e (f .spoke) in
     record {
       spoke = subst (λ u. Spoke due (said (asked l (x .groups) m) u (stateAfter (asked l (x .groups) m) u (held l x))) r at s r′) q w;

@@ -1,10 +1,10 @@
--- `answer` meets its contract: ten commands write a payload, one asks for a run, the others are done. Assumes nothing.
+-- `answer` meets its contract: eleven commands write a payload, one asks for a run, the others are done. Assumes nothing.
 use borrow.Author.Needs.{needs}
 use Rattle.bsmp.specs.Board.{members, writableGroup}
 use Rattle.bsmp.specs.Message.{variableList, groupList, curveList, functionList, line, spoken}
 use Rattle.answers.proofs.Answers.{read-some-needs, read-known-needs, second-some-needs, second-known-needs}
-use Rattle.answers.proofs.Answers.{show-needs, group-read-needs, block-read-needs, run-needs}
-use Rattle.answers.proofs.Answers.{answer-told, answer-done, answer-run}
+use Rattle.answers.proofs.Answers.{show-needs, group-read-needs, block-read-needs, sum-needs, run-needs}
+use Rattle.answers.proofs.Answers.{answer-told, answer-sum, answer-done, answer-run}
 use Rattle.answers.proofs.answer.Statement.{statement}
 use Rattle.answers.proofs.answer.Tie as tie
 
@@ -23,7 +23,9 @@ answer-spec =
     (λ c. search needs) (λ c κs. (search needs, (search (group-read-needs, needs), search needs))) (λ c κs. search needs)
     (λ c. search needs) (λ c κs. (search needs, (search (second-some-needs, needs), search (second-known-needs, needs), search needs))) (λ c κs. search needs)
     (λ c. search needs) (λ c κs. (search needs, (search (block-read-needs, needs), search needs))) (λ c κs. search needs)
+    (λ c. search needs) (λ c κs. (search (sum-needs, needs), search needs)) (λ c κs. search needs)
     (λ c. search needs) (λ c κs. search (run-needs, needs))
+    (λ c. search needs) (λ c κs. search needs)
     (λ c. search needs) (λ c κs. search needs) (λ c. search needs) (λ c κs. search needs)
     (λ c. search needs) (λ c κs. search needs) (λ c. search needs) (λ c κs. search needs)
     (λ c. search needs) (λ c κs. search needs) (λ c. search needs) (λ c κs. search needs)
@@ -38,6 +40,7 @@ answer-spec =
     (λ c. search needs) (λ c. search (answer-told, needs))
     (λ c. search needs) (λ c. search (answer-told, needs))
     (λ c. search needs) (λ c. search (answer-told, needs))
+    (λ c. search needs) (λ c. search (answer-sum, needs))
     (λ c. search (answer-run, needs))
-    (λ c. search (answer-done, needs)) (λ c. search (answer-done, needs)) (λ c. search (answer-done, needs)) (λ c. search (answer-done, needs))
+    (λ c. search (answer-done, needs)) (λ c. search (answer-done, needs)) (λ c. search (answer-done, needs)) (λ c. search (answer-done, needs)) (λ c. search (answer-done, needs))
     (λ c. search (answer-done, needs)) (λ c. search (answer-done, needs)) (λ c. search (answer-done, needs)) (λ c. search (answer-done, needs)))

@@ -9,5 +9,5 @@ carry-out-spec =
     tie.close
     (tie.spec
     (λ c. search needs) (λ c. search (judged-whole, needs)) (λ c. search (judged-whole, needs)) (λ c. search needs)
-    (λ c κs. (search needs, search (judged-passes, needs))) (λ c. search needs) (λ c. search needs) (λ c. search needs)
+    (λ c κs. (search needs, search (judged-passes, needs))) (λ c. search needs) (λ c. search needs) (λ c. search needs) (λ c. search needs)
     (λ c. search (carried-pass, needs)) (λ c. search (carried-fail, needs)))

@@ -10,5 +10,5 @@ fulfil-spec =
     (tie.spec
     (λ c κs. (search (still-sound, needs), search needs))
     (λ c κs. (search (still-sound, needs), search needs))
-    (λ c. search needs) (λ c. search needs) (λ c. search needs)
+    (λ c. search needs) (λ c. search needs) (λ c. search needs) (λ c. search needs)
     (λ c. search (fulfilled, needs)))
