@@ -8,4 +8,4 @@ pub answer-spec : {M : Type 1} → statement M
 answer-spec =
     tie.close
     (tie.spec
-    (λ c κs. search needs) (λ c κs. search (closable, needs)) (λ c. search needs) (λ c. search needs) (λ c. search needs) (λ c. search (answer-ends, needs)))
+    (λ c κs. search needs) (λ c κs. search (closable, needs)) (λ c. search needs) (λ c. search needs) (λ c. search needs) (λ c. search needs) (λ c. search (answer-ends, needs)))

@@ -13,4 +13,4 @@ receive-spec =
     (λ c κs. search needs) (λ c. search needs) (λ c. search needs)
     (λ c κs. search needs) (λ c. search (carried-unopened, needs))
     (λ c κs. (search (board-ready, needs), search (message-least, message-room, needs)))
-    (λ c. search needs) (λ c. search needs) (λ c. search needs) (λ c. search (carried-served, needs)))
+    (λ c. search needs) (λ c. search needs) (λ c. search needs) (λ c. search needs) (λ c. search (carried-served, needs)))
