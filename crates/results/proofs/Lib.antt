@@ -1,4 +1,5 @@
 pub mod Judging
 pub mod Answering
 pub mod Storing
+pub mod Freshening
 pub mod Unique

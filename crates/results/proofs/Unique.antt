@@ -4,8 +4,8 @@ use mathlib.Core.List.{List}
 use Prim.Native.Nat.{ℕ}
 use native.Mathlib.Omega.{arith}
 use lib.ListN.{length}
-use Rattle.bsmp.specs.Board.{Table, State, layout, sizesOf, faults}
-use Rattle.bsmp.specs.Packet.{Ending, reply, silence, run, refuse, storeTests, boardStore}
+use Rattle.bsmp.specs.Board.{Table, State, layout, sizesOf, sumSizes, fresh, faults}
+use Rattle.bsmp.specs.Packet.{Ending, reply, silence, run, refuse, storeTests, boardStore, freshBoard}
 use Rattle.bsmp.specs.Store.{Lent, held}
 use Rattle.bsmp.specs.declared.VariableNumber.{VariableNumber}
 use Rattle.bsmp.specs.declared.Refusal.{Refusal}
@@ -13,7 +13,7 @@ use Rattle.bsmp.specs.declared.Outcome.{Outcome}
 use Rattle.bsmp.specs.declared.Outcome.the-variants as O
 use Rattle.bsmp.proofs.Chain.{first-case}
 use Rattle.bsmp.proofs.Store.{join-cut}
-use Rattle.results.specs.Results.{ResultLeft, resultLeft, resultLeftOf, storedOf, StoreLeft, storeLeft, storeLeftOf}
+use Rattle.results.specs.Results.{ResultLeft, resultLeft, resultLeftOf, storedOf, StoreLeft, storeLeft, storeLeftOf, FreshLeft, freshLeft, freshLeftOf}
 use Rattle.results.specs.declared.Stored.{Stored}
 use Rattle.results.specs.declared.Stored.the-variants.{Done, Refused}
 
@@ -24,7 +24,10 @@ result-unique x o o′ b b′ h k = (ap (λ (y : ResultLeft). y .outcome) (h ∙
 pub store-unique : (x : StoreLeft) (a a′ : Stored) (vs vs′ : List ℕ) → storeLeft a vs ≡ x → storeLeft a′ vs′ ≡ x → (a ≡ a′) × (vs ≡ vs′)
 store-unique x a a′ vs vs′ h k = (ap (λ (y : StoreLeft). y .stored) (h ∙ sym k), ap (λ (y : StoreLeft). y .values) (h ∙ sym k))
 
--- the answer of a board store tells its whole ending
+pub fresh-unique : (x : FreshLeft) (a a′ : Stored) (ds ds′ : List ℕ) → freshLeft a ds ≡ x → freshLeft a′ ds′ ≡ x → (a ≡ a′) × (ds ≡ ds′)
+fresh-unique x a a′ ds ds′ h k = (ap (λ (y : FreshLeft). y .stored) (h ∙ sym k), ap (λ (y : FreshLeft). y .sums) (h ∙ sym k))
+
+-- the answer of a board store, and of a fresh board, tells its whole ending
 abbrev endingOf : Stored → Ending
 endingOf Done = silence
 endingOf (Refused n) = Ending.refused n
@@ -34,6 +37,10 @@ unfolding boardStore
 store-ends t i b s =
     first-case (λ r. r .ending ≡ endingOf (storedOf (r .ending))) (faults t s) (refuse s) _ (λ n. refl)
     (λ d. first-case (λ r. r .ending ≡ endingOf (storedOf (r .ending))) (storeTests (layout t) i b) (refuse s) _ (λ n. refl) (λ c. refl))
+
+pub fresh-ends : (t : Table) (s : State) → freshBoard t s .ending ≡ endingOf (storedOf (freshBoard t s .ending))
+unfolding freshBoard
+fresh-ends t s = first-case (λ r. r .ending ≡ endingOf (storedOf (r .ending))) (faults t s) (refuse s) _ (λ n. refl) (λ c. refl)
 
 reply-no : (n : Refusal) (k : ℕ) → O.Refused n ≡ O.Reply k → ⊥
 reply-no n k h = let z : _≡_ {A = ℕ} 0 1 = cc in omega arith
@@ -58,3 +65,10 @@ refused-values t i b x n vs′ =
   where
     kept : (m : Refusal) → storeLeft (Refused n) vs′ ≡ storeLeftOf (refuse (held (layout t) x) m) → vs′ ≡ x .values
     kept m h = ap (λ (y : StoreLeft). y .values) h ∙ join-cut (sizesOf (t .variables)) (x .values)
+
+pub refused-sums : (t : Table) (x : Lent) (n : Refusal) (ds′ : List ℕ) → freshLeft (Refused n) ds′ ≡ freshLeftOf (freshBoard t (held (layout t) x)) → ds′ ≡ x .sums
+unfolding freshBoard fresh
+refused-sums t x n ds′ =
+    first-case (λ r. freshLeft (Refused n) ds′ ≡ freshLeftOf r → ds′ ≡ x .sums) (faults t (held (layout t) x)) (refuse (held (layout t) x)) _
+    (λ m h. ap (λ (y : FreshLeft). y .sums) h ∙ join-cut (sumSizes (t .curves)) (x .sums))
+    (λ c h. absurd (done-no n (ap (λ (y : FreshLeft). y .stored) h)))
