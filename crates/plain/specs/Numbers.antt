@@ -28,7 +28,7 @@ abbrev pub ranFrom : (failed : Bool) → (error : ℕ) → Ran
 ranFrom true error = Failed error
 ranFrom false error = Gave
 
--- a board store and number to bytes: 0 or the refusal's number
+-- a board store, a fresh board and number to bytes: 0 or the refusal's number
 abbrev pub storedNumber : Stored → ℕ
 storedNumber S.Done = 0
 storedNumber (S.Refused r) = refusalNumber r
