@@ -5,6 +5,7 @@ pub mod Apart
 pub mod PacketWalk
 pub mod ResultWalk
 pub mod StoreWalk
+pub mod FreshWalk
 pub mod ReadSignedWalk
 pub mod ReadUnsignedWalk
 pub mod WriteSignedWalk

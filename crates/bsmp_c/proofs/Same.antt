@@ -6,8 +6,8 @@ use Prim.Native.Nat.{ℕ, _<_}
 use native.Mathlib.Omega.{arith}
 use lib.IntN.{ℤ}
 use lib.ListN.{length}
-use Rattle.bsmp.specs.Board.{layout, blockSizes, usable, usableVariables}
-use Rattle.bsmp.specs.Packet.{Result, refuse, packet, functionResult, boardStore}
+use Rattle.bsmp.specs.Board.{layout, blockSizes, sumSizes, usable, usableVariables}
+use Rattle.bsmp.specs.Packet.{Result, refuse, packet, functionResult, boardStore, freshBoard}
 use Rattle.bsmp.specs.Number.{Reading, Written, reading, writing}
 use Rattle.bsmp.specs.declared.Variable.{Variable}
 use Rattle.bsmp.specs.declared.Refusal.the-variants.{BoardUnusable}
@@ -20,18 +20,18 @@ use Rattle.records.specs.Lending.{recordsOf, groupsOf}
 use Rattle.records.proofs.Sound.{variables-most}
 use Rattle.wire.specs.Opening.{placed}
 use Rattle.node.specs.Promise.{tableWith, packetLeftOf}
-use Rattle.results.specs.Results.{resultLeft, resultLeftOf, storeLeft, storeLeftOf}
+use Rattle.results.specs.Results.{resultLeft, resultLeftOf, storeLeft, storeLeftOf, freshLeft, freshLeftOf}
 use Rattle.results.specs.declared.Stored.the-variants as S
 use Rattle.readings.specs.Answers.{writingLeftOf}
 use Rattle.columns.specs.Columns.{columnsOf}
 use Rattle.columns.proofs.Columns.{columns-same}
-use Rattle.plain.specs.Lending.{Lending, tableIn, heldIn}
+use Rattle.plain.specs.Lending.{Lending, lending, tableIn, heldIn}
 use Rattle.plain.specs.Numbers.{plainOutcomeOf, plainReadingOf}
-use Rattle.plain.specs.Calls.{PlainPacketLeft, plainPacketLeft, plainPacketLeftOf, packetOf, PlainResultLeft, plainResultLeftOf, resultOf, PlainBytesLeft, plainStoreLeftOf, plainWritingLeftOf, storeOf, writingOf, readingOf}
+use Rattle.plain.specs.Calls.{PlainPacketLeft, plainPacketLeft, plainPacketLeftOf, packetOf, PlainResultLeft, plainResultLeftOf, resultOf, PlainBytesLeft, plainStoreLeftOf, plainFreshLeftOf, plainWritingLeftOf, storeOf, freshOf, writingOf, readingOf}
 
 -- the same with other variable records
 abbrev pub withVariables : List Variable → Lending → Lending
-withVariables vs x = record { variables = vs; curves = x .curves; functions = x .functions; groups = x .groups; values = x .values; blocks = x .blocks }
+withVariables vs x = lending vs (x .curves) (x .functions) (x .groups) (x .values) (x .blocks) (x .sums)
 
 abbrev pub byColumns : Lending → Lending
 byColumns x = withVariables (recordsOf (columnsOf (x .variables))) x
@@ -47,7 +47,7 @@ long-board x h = not-usable (tableIn x) (heldIn x) (λ u. omega (arith, variable
 module _ (x : Lending) (own multicast busy : ℕ) (request reply : List ℕ) where
   abbrev untouched : PlainPacketLeft
   untouched =
-      plainPacketLeft (plainOutcomeOf (O.Refused BoardUnusable)) (tableWith (groupsOf (x .groups)) (x .groups)) reply (x .values) (x .blocks)
+      plainPacketLeft (plainOutcomeOf (O.Refused BoardUnusable)) (tableWith (groupsOf (x .groups)) (x .groups)) reply (x .values) (x .blocks) (x .sums)
 
   module _ (us : List Variable) (h : 64 < length us) where
     abbrev y : Lending
@@ -61,8 +61,9 @@ module _ (x : Lending) (own multicast busy : ℕ) (request reply : List ℕ) whe
     long-packet =
         let values = join-cut (layout (tableIn y) .sizes) (x .values) in
         let blocks = join-cut (blockSizes (layout (tableIn y) .curves)) (x .blocks) in
+        let sums = join-cut (sumSizes (layout (tableIn y) .curves)) (x .sums) in
         ap (λ z. plainPacketLeftOf (packetLeftOf z reply (x .groups))) stops
-        ∙ (λ i. plainPacketLeft (plainOutcomeOf (O.Refused BoardUnusable)) (tableWith (groupsOf (x .groups)) (x .groups)) reply (values i) (blocks i))
+        ∙ (λ i. plainPacketLeft (plainOutcomeOf (O.Refused BoardUnusable)) (tableWith (groupsOf (x .groups)) (x .groups)) reply (values i) (blocks i) (sums i))
 
   pub packet-same : packetOf (byColumns x) own multicast busy request reply ≡ packetOf x own multicast busy request reply
   packet-same = columns-same (λ us. packetOf (withVariables us x) own multicast busy request reply) untouched long-packet (x .variables)
@@ -93,6 +94,19 @@ store-same x i bytes = columns-same (λ us. storeOf (withVariables us x) i bytes
         let y : Lending = withVariables us x in
         sym (ap (λ (z : Result). plainStoreLeftOf (storeLeftOf z)) (faults-some (tableIn y) (heldIn y) (refuse (heldIn y)) _ _ (long-board y h) refl))
         ∙ ap refused (join-cut (layout (tableIn y) .sizes) (x .values))
+
+pub fresh-same : (x : Lending) → freshOf (byColumns x) ≡ freshOf x
+unfolding freshBoard
+fresh-same x = columns-same (λ us. freshOf (withVariables us x)) (refused (x .sums)) long (x .variables)
+  where
+    refused : List ℕ → PlainBytesLeft
+    refused sums = plainFreshLeftOf (freshLeft (S.Refused BoardUnusable) sums)
+
+    long : (us : List Variable) → 64 < length us → freshOf (withVariables us x) ≡ refused (x .sums)
+    long us h =
+        let y : Lending = withVariables us x in
+        sym (ap (λ (z : Result). plainFreshLeftOf (freshLeftOf z)) (faults-some (tableIn y) (heldIn y) (refuse (heldIn y)) _ _ (long-board y h) refl))
+        ∙ ap refused (join-cut (sumSizes (layout (tableIn y) .curves)) (x .sums))
 
 pub reading-same : (vs : List Variable) (i : ℕ) (signed : Bool) (bytes : List ℕ)
     → readingOf (recordsOf (columnsOf vs)) i signed bytes ≡ readingOf vs i signed bytes

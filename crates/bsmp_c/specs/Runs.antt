@@ -7,12 +7,12 @@ use Prim.Native.Nat.{ℕ}
 use lib.Dec.{eqb}
 use lib.ListN.{take}
 use Rattle.bsmp.specs.Board.{variable, function}
-use Rattle.bsmp.specs.Apart.{Call, packetIn, resultIn, storeIn}
+use Rattle.bsmp.specs.Apart.{Call, packetIn, resultIn, storeIn, freshIn}
 use Rattle.bsmp.specs.declared.Outcome.the-variants as O
 use Rattle.results.specs.Results.{ranOf}
 use Rattle.plain.specs.Lending.{Lending, lending}
 use Rattle.plain.specs.Numbers.{plainOutcomeOf, ranFrom}
-use Rattle.plain.specs.Calls.{PlainPacketLeft, packetOf, PlainResultLeft, resultOf, PlainBytesLeft, storeOf}
+use Rattle.plain.specs.Calls.{PlainPacketLeft, packetOf, PlainResultLeft, resultOf, PlainBytesLeft, storeOf, freshOf}
 use Rattle.plain.specs.declared.PlainOutcome.{PlainOutcome}
 
 -- a call: what is handed in beside the board, and what the function leaves
@@ -23,18 +23,22 @@ pub data Turn : Type 0 where
   resultTurn : ℕ → Bool → Bool → ℕ → List ℕ → List ℕ → PlainResultLeft → Turn
   -- `bsmp_board_store`: variable, bytes
   storeTurn : ℕ → List ℕ → PlainBytesLeft → Turn
+  -- `bsmp_fresh_board`
+  freshTurn : PlainBytesLeft → Turn
 
 -- the promise of the function, on the board x with these addresses
 abbrev pub Promised : (own multicast : ℕ) → Lending → Turn → Type 0
 Promised own multicast x (packetTurn busy p b z) = z ≡ packetOf x own multicast busy p b
 Promised own multicast x (resultTurn f due failed error out b z) = z ≡ resultOf x f due failed error out b
 Promised own multicast x (storeTurn i b z) = z ≡ storeOf x i b
+Promised own multicast x (freshTurn z) = z ≡ freshOf x
 
 -- the board as the call leaves it
 abbrev pub leftIn : Lending → Turn → Lending
-leftIn x (packetTurn busy p b z) = lending (x .variables) (x .curves) (x .functions) (z .groups) (z .values) (z .blocks)
+leftIn x (packetTurn busy p b z) = lending (x .variables) (x .curves) (x .functions) (z .groups) (z .values) (z .blocks) (z .sums)
 leftIn x (resultTurn f due failed error out b z) = x
-leftIn x (storeTurn i b z) = lending (x .variables) (x .curves) (x .functions) (x .groups) (z .bytes) (x .blocks)
+leftIn x (storeTurn i b z) = lending (x .variables) (x .curves) (x .functions) (x .groups) (z .bytes) (x .blocks) (x .sums)
+leftIn x (freshTurn z) = lending (x .variables) (x .curves) (x .functions) (x .groups) (x .values) (x .blocks) (z .bytes)
 
 -- each call starts from what the last one left
 abbrev pub Runs : (own multicast : ℕ) → Lending → List Turn → Type 0
@@ -50,6 +54,7 @@ abbrev pub callOf : Turn → Call
 callOf (packetTurn busy p b z) = packetIn busy p b
 callOf (resultTurn f due failed error out b z) = resultIn (function f) due (ranOf (ranFrom failed error) out) b
 callOf (storeTurn i b z) = storeIn (variable i) b
+callOf (freshTurn z) = freshIn
 
 -- what the caller sees: the outcome's numbers, and the answer's bytes in the buffer
 pub record PlainSeen : Type 0 where
@@ -59,7 +64,7 @@ pub record PlainSeen : Type 0 where
 abbrev pub plainSeen : PlainOutcome → (buffer : List ℕ) → PlainSeen
 plainSeen o b = record { outcome = o; answer = cond (eqb (o .kind) 0) (take (o .length) b) [] }
 
--- the number of a board store says that it ended in silence, or the refusal
+-- the number of a board store, or of a fresh board, says that it ended in silence, or the refusal
 abbrev pub numberSeen : ℕ → PlainSeen
 numberSeen n = plainSeen (cond (eqb n 0) (plainOutcomeOf O.Silence) (record { kind = 3; refusal = n; due = false; function = 0; input = 0; length = 0 })) []
 
@@ -67,6 +72,7 @@ abbrev pub sees : Turn → PlainSeen
 sees (packetTurn busy p b z) = plainSeen (z .outcome) (z .reply)
 sees (resultTurn f due failed error out b z) = plainSeen (z .outcome) (z .reply)
 sees (storeTurn i b z) = numberSeen (z .number)
+sees (freshTurn z) = numberSeen (z .number)
 
 abbrev pub seenIn : List Turn → List PlainSeen
 seenIn rs = map sees rs
@@ -79,14 +85,17 @@ abbrev pub IsRefused : Turn → Type 0
 IsRefused (packetTurn busy p b z) = z .outcome .kind ≡ 3
 IsRefused (resultTurn f due failed error out b z) = z .outcome .kind ≡ 3
 IsRefused (storeTurn i b z) = z .number ≡ 0 → ⊥
+IsRefused (freshTurn z) = z .number ≡ 0 → ⊥
 
--- the reply buffer as it was handed in, and as the call leaves it; a board store has none
+-- the reply buffer as it was handed in, and as the call leaves it; a board store and a fresh board have none
 abbrev pub bufferIn : Turn → List ℕ
 bufferIn (packetTurn busy p b z) = b
 bufferIn (resultTurn f due failed error out b z) = b
 bufferIn (storeTurn i b z) = []
+bufferIn (freshTurn z) = []
 
 abbrev pub bufferLeft : Turn → List ℕ
 bufferLeft (packetTurn busy p b z) = z .reply
 bufferLeft (resultTurn f due failed error out b z) = z .reply
 bufferLeft (storeTurn i b z) = []
+bufferLeft (freshTurn z) = []
