@@ -1,5 +1,5 @@
 -- One name to open every definition of the node where a whole packet is computed. Assumes nothing.
-use Rattle.md5.specs.Md5 as md5
+use Rattle.md5.proofs.Computes.{computes as md5-computes}
 use Rattle.bsmp.specs.Base.{sum, has, first}
 use Rattle.bsmp.specs.Codes.{commandOf, operationOf, noOperation, kindOf}
 use Rattle.bsmp.specs.Board.{inGroup, members, groupBytes, writableGroup, setOf, usableVariables, usableCurves, usableFunctions, usableGroups, wholeValues, wholeCurves, wholeSums, fresh, usable, faults}
@@ -10,5 +10,5 @@ use Rattle.bsmp.specs.Number.{little, littleBytes, meant, inRange, unsig
 
 -- to unfold this is to unfold all that its line names
 unfoldable pub computes : Type 0
-unfolding sum has first commandOf operationOf noOperation kindOf inGroup members groupBytes writableGroup setOf usableVariables usableCurves usableFunctions usableGroups wholeValues wholeCurves wholeSums fresh usable faults writesVariable writesGroup variableList groupList curveList functionList line check judge operated changed after valuesOf spoken stateAfter said carried handled usablePlace inMulticast frame ends served packet functionResult boardStore freshBoard little littleBytes meant inRange unsignedOf reading writing md5.plus md5.rotated md5.inverse md5.word md5.bytes md5.padding md5.lengthBytes md5.padded md5.initial md5.mixF md5.mixG md5.mixH md5.mixI md5.T md5.step md5.turn md5.turns md5.added md5.operated md5.chunks md5.hashed md5.output md5.digest
+unfolding sum has first commandOf operationOf noOperation kindOf inGroup members groupBytes writableGroup setOf usableVariables usableCurves usableFunctions usableGroups wholeValues wholeCurves wholeSums fresh usable faults writesVariable writesGroup variableList groupList curveList functionList line check judge operated changed after valuesOf spoken stateAfter said carried handled usablePlace inMulticast frame ends served packet functionResult boardStore freshBoard little littleBytes meant inRange unsignedOf reading writing md5-computes
 computes = Unit {0}

@@ -10,7 +10,7 @@ use lib.ListN.{length, take, drop, set, getD, replicate, length-append, length-d
 use lib.Seq.{set-getD, getD-append-add}
 use borrow.Author.Tests.{eq-eqb, eqb-true, leb-true, leb-false, ltb-true, not-false, le-leb, lt-ltb}
 use Rattle.md5.specs.Md5.{digest}
-use Rattle.md5.proofs.Suite.{length-digest}
+use Rattle.md5.proofs.Digest.{length-digest}
 use Rattle.bsmp.specs.Base.{some, every, sum, join, cut, byteAt, wordAt, upFrom}
 use Rattle.bsmp.specs.Codes.{commandOf}
 use Rattle.bsmp.specs.Board.{variable, curve, Table, Layout, layout, State, valueOf, blockOf, sizeOf, variables, isSame, groupBytes, setOf, blankCurve, curveOf, blockSizes, blockPlace}

@@ -12,7 +12,7 @@ use mir.Syntax.{w64}
 use mir.Val.{Fits}
 use borrow.Rule.Slice.PartMut.{midOf, putMid}
 use Rattle.md5.specs.Md5.{digest}
-use Rattle.md5.proofs.Suite.{length-digest}
+use Rattle.md5.proofs.Digest.{length-digest}
 use Rattle.copies.specs.Put.{put, part}
 use Rattle.copies.proofs.Put.{put-back, length-part}
 use Rattle.bsmp.specs.Base.{join, upFrom, cut, byteAt}

@@ -1,4 +1,5 @@
 pub mod Words
 pub mod Digest
+pub mod Computes
 pub mod Suite
 pub mod Turns

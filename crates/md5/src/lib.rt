@@ -82,11 +82,10 @@ const TABLE: [u32; 64] = [
     0xeb86d391,
 ];
 
-// In 64 bits, where no bit is lost. Compiled, it is one addition.
 fn plus(x: u32, y: u32) -> u32
     ensures { λ r. ⌜ r ≡ x ⊞ y ⌝ }
 {
-    ((x as u64 + y as u64) % 0x1_0000_0000) as u32
+    std::num::wrapping_add_u32(x, y)
 }
 
 fn rotate_left(x: u32, s: u32) -> u32
