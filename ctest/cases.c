@@ -5,7 +5,7 @@
 #include <stdio.h>
 #include <string.h>
 
-enum entry { PACKET, RESULT, STORE, READ_SIGNED, READ_UNSIGNED, WRITE_SIGNED, WRITE_UNSIGNED };
+enum entry { PACKET, RESULT, STORE, FRESH, READ_SIGNED, READ_UNSIGNED, WRITE_SIGNED, WRITE_UNSIGNED };
 enum ending { REPLY = BSMP_REPLY, SILENCE = BSMP_SILENCE, RUN = BSMP_RUN, REFUSED = BSMP_REFUSED, DONE };
 
 struct act {
@@ -27,7 +27,7 @@ struct act {
     uint64_t number;
     const uint8_t *bytes;
     size_t length;
-    uint64_t left; /* a digest of stores and group table */
+    uint64_t left; /* a digest of stores, sums and group table */
 };
 
 struct whole_case {
@@ -41,6 +41,8 @@ struct whole_case {
     size_t value_starts, values_length;
     const uint8_t *blocks;
     size_t block_starts, blocks_length;
+    const uint8_t *sums;
+    size_t sum_starts, sums_length;
     struct bsmp_groups groups;
     uint8_t own, multicast;
     const struct act *acts;
@@ -51,7 +53,8 @@ struct whole_case {
 
 /* Stores, which may be too long for a board, and a buffer, with some bytes behind each that must stay as they are. */
 enum { UNTOUCHED = 0x5C, BEHIND = 16, VALUES_ROOM = 2 * BSMP_MOST_VALUE_BYTES, BLOCKS_ROOM = 2 * BSMP_MOST_CURVE_BYTES };
-static uint8_t values[VALUES_ROOM + BEHIND], blocks[BLOCKS_ROOM + BEHIND], buffer[BSMP_REPLY_ROOM + BEHIND];
+enum { SUMS_ROOM = 2 * BSMP_MOST_CURVES * BSMP_SUM_SIZE };
+static uint8_t values[VALUES_ROOM + BEHIND], blocks[BLOCKS_ROOM + BEHIND], sums[SUMS_ROOM + BEHIND], buffer[BSMP_REPLY_ROOM + BEHIND];
 static struct bsmp_groups groups;
 static unsigned failed, calls;
 
@@ -86,6 +89,7 @@ static uint64_t left(const struct whole_case *whole)
     uint64_t digest = UINT64_C(0xCBF29CE484222325);
     digest = mixed(digest, values, whole->values_length);
     digest = mixed(digest, blocks, whole->blocks_length);
+    digest = mixed(digest, sums, whole->sums_length);
     digest = with_number(digest, groups.count);
     for (int i = 0; i < BSMP_MOST_MADE_GROUPS; i++) digest = with_number(digest, groups.sets[i]);
     return digest;
@@ -99,7 +103,7 @@ static void start_store(uint8_t *store, size_t room, const uint8_t *starts, size
 }
 
 #define RECORDS whole->variables, whole->variable_count, whole->curves, whole->curve_numbers, whole->functions, whole->function_numbers
-#define STORES values, whole->values_length, blocks, whole->blocks_length
+#define STORES values, whole->values_length, blocks, whole->blocks_length, sums, whole->sums_length
 
 /* What an entry gives, brought to one form. */
 struct came {
@@ -137,6 +141,7 @@ static struct came call(const struct whole_case *whole, const struct act *act)
         return of_outcome(bsmp_function_result(RECORDS, &groups, STORES, act->thing, act->due, false, 0, act->given, act->given_length,
                                                buffer, act->room));
     case STORE: return of_refusal(bsmp_board_store(RECORDS, &groups, STORES, act->thing, act->given, act->given_length), 0);
+    case FRESH: return of_refusal(bsmp_fresh_board(RECORDS, &groups, STORES), 0);
     case READ_SIGNED:
         read_signed = bsmp_read_signed(variables, count, act->thing, act->given, act->given_length);
         return of_refusal(read_signed.refusal, (uint64_t)read_signed.number);
@@ -164,19 +169,21 @@ static void try_act(const struct whole_case *whole, const struct act *act)
     }
     if (written > 0) check(memcmp(buffer, act->bytes, written) == 0, act, "other bytes");
     check(untouched(buffer, written, sizeof buffer), act, "the buffer was written beyond the bytes");
-    check(untouched(values, whole->values_length, sizeof values) && untouched(blocks, whole->blocks_length, sizeof blocks), act,
-          "something was written beyond a store");
+    check(untouched(values, whole->values_length, sizeof values) && untouched(blocks, whole->blocks_length, sizeof blocks) &&
+              untouched(sums, whole->sums_length, sizeof sums),
+          act, "something was written beyond a store or the sums");
     check(left(whole) == act->left, act, "another state");
 }
 
 static void try_case(const struct whole_case *whole)
 {
-    if (whole->values_length > VALUES_ROOM || whole->blocks_length > BLOCKS_ROOM) {
-        check(false, whole->acts, "a store is too long for this program");
+    if (whole->values_length > VALUES_ROOM || whole->blocks_length > BLOCKS_ROOM || whole->sums_length > SUMS_ROOM) {
+        check(false, whole->acts, "a store is too long for this program, or the sums are");
         return;
     }
     start_store(values, sizeof values, whole->values, whole->value_starts, whole->values_length);
     start_store(blocks, sizeof blocks, whole->blocks, whole->block_starts, whole->blocks_length);
+    start_store(sums, sizeof sums, whole->sums, whole->sum_starts, whole->sums_length);
     groups = whole->groups;
     for (size_t i = 0; i < whole->act_count; i++) try_act(whole, &whole->acts[i]);
 }

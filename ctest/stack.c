@@ -2,8 +2,8 @@
  *
  * Each call runs on a stack of its own that was painted before; the deepest byte that lost its paint says how far the call went.
  * The same call is also made to a function that returns at once. What that takes is the caller's: the arguments that it pushes,
- * and the return address. (On x86-64 a packet's 18 arguments and the place for the outcome are 19 words; six go in registers, 13
- * are pushed, which with the return address is 112 bytes.) The difference is what the library needs beyond that, with memcpy and
+ * and the return address. (On x86-64 a packet's 20 arguments and the place for the outcome are 21 words; six go in registers, 15
+ * are pushed, which with the return address is 128 bytes.) The difference is what the library needs beyond that, with memcpy and
  * memset. For x86-64, aarch64 and 32-bit ARM. */
 #include "bsmp.h"
 
@@ -24,8 +24,9 @@ static struct bsmp_curve curves[BSMP_MOST_CURVES];
 static struct bsmp_function functions[BSMP_MOST_FUNCTIONS];
 static uint8_t values[BSMP_MOST_VALUE_BYTES];
 static uint8_t blocks[BSMP_MOST_CURVE_BYTES];
+static uint8_t sums[BSMP_MOST_CURVES * BSMP_SUM_SIZE];
 static struct bsmp_board board = {variables, BSMP_MOST_VARIABLES, curves, BSMP_MOST_CURVES, functions, BSMP_MOST_FUNCTIONS, 5, 1};
-static struct bsmp_state state = {values, sizeof values, blocks, sizeof blocks, {0, {0}}};
+static struct bsmp_state state = {values, sizeof values, blocks, sizeof blocks, sums, sizeof sums, {0, {0}}};
 
 static uint8_t packet[BSMP_MOST_PACKET + 1];
 static size_t packet_length;
@@ -107,7 +108,7 @@ static const struct call *current;
 #define RECORDS \
     variables, board.variable_count, bsmp_node_curve_numbers(&board), 3 * board.curve_count, bsmp_node_function_numbers(&board), \
         2 * board.function_count
-#define STORES values, sizeof values, blocks, sizeof blocks
+#define STORES values, sizeof values, blocks, sizeof blocks, sums, sizeof sums
 
 static void call_packet(void)
 {

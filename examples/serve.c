@@ -199,6 +199,7 @@ static enum waited transmit(const struct line *line, const uint8_t *bytes, size_
 
 static uint8_t values[BOARD_A_VALUES];
 static uint8_t blocks[BOARD_A_BLOCKS];
+static uint8_t sums[BOARD_A_SUMS];
 static uint8_t reply[BSMP_REPLY_ROOM];
 
 /* Function 0 stands for a real board's work: 1000 divided by its input, most significant byte first, or error 1 if that is 0. */
@@ -231,8 +232,13 @@ static enum waited answer(const struct line *line, struct bsmp_state *state, con
 static int serve(const struct line *line)
 {
     static struct packet packet;
-    struct bsmp_state state = board_a_fresh(values, blocks);
+    struct bsmp_state state;
     enum waited waited = READY;
+    uint8_t refusal = board_a_fresh(&state, values, blocks, sums);
+    if (refusal != BSMP_NOT_REFUSED) {
+        say("the board is refused: %u, %s", refusal, bsmp_refusal_words(refusal));
+        return 1;
+    }
     if (verbose) say("serves address %u on %s at %ld baud", board_a.own, line->device, line->baud);
     while (waited == READY) {
         waited = receive(line, &packet);

@@ -7,8 +7,9 @@
  * There are two layers, and a function's name tells its layer:
  *   - bsmp_node_.. takes a board and its state as two structs. It is what a board needs and comes first. These functions are
  *     inline; every judgement in them is the library's.
- *   - The seven functions of the library itself have no such prefix and take bare slices. They come after, with who needs them.
- * Two helpers belong to both: bsmp_checksum and bsmp_refusal_words. examples/first_packet.c is the shortest program.
+ *   - The nine functions of the library itself have no such prefix and take bare slices. They come after, with who needs them.
+ * Three helpers belong to both: bsmp_checksum, bsmp_refusal_words and the library's bsmp_md5. examples/first_packet.c is the
+ * shortest program.
  *
  * Link with libbsmp_c.a. There are two:
  *   - The proved archive is x86-64 code with the System V calling convention, and uses the SSE registers. It calls memcpy,
@@ -25,7 +26,7 @@
  * NULL is fine for every slice (a pointer with its length) of length 0. A group table, a board and a state are never NULL.
  *
  * Nothing else is asked. Wrong records, lengths, numbers and packets get a refusal by number, and a refused call changes no
- * byte of any store, group table or buffer. */
+ * byte of any store, sum, group table or buffer. */
 #ifndef BSMP_H
 #define BSMP_H
 
@@ -36,7 +37,7 @@
 /* The version of this header with its library; .ci/checks/version holds the Rust face's and the suite's to it. And the version of
  * the protocol, as the node answers it to command 00. */
 #define BSMP_VERSION_MAJOR 0
-#define BSMP_VERSION_MINOR 3
+#define BSMP_VERSION_MINOR 4
 #define BSMP_VERSION_PATCH 0
 #define BSMP_VERSION (10000 * BSMP_VERSION_MAJOR + 100 * BSMP_VERSION_MINOR + BSMP_VERSION_PATCH) /* for #if */
 #define BSMP_PROTOCOL_MAJOR 2
@@ -64,6 +65,7 @@ enum {
     BSMP_MOST_BLOCK_SIZE = 4096,    /* at least 1 */
     BSMP_MOST_BLOCKS = 65536,       /* of one curve; at least 1 */
     BSMP_MOST_CURVE_BYTES = 65536,  /* bytes of all curves together */
+    BSMP_SUM_SIZE = 16,             /* bytes of the sum of one curve */
     BSMP_MOST_FUNCTIONS = 16,
     BSMP_MOST_INPUT = 15,           /* bytes that go into a function */
     BSMP_MOST_OUTPUT = 15,          /* bytes that come out */
@@ -96,7 +98,7 @@ enum bsmp_outcome_kind { BSMP_REPLY = 0, BSMP_SILENCE = 1, BSMP_RUN = 2, BSMP_RE
 /* Local refusals. Where several are due, the smallest number is given, except that 11 comes before 10. */
 enum bsmp_refusal {
     BSMP_NOT_REFUSED = 0,
-    BSMP_BOARD_UNUSABLE = 1,      /* a record, store length or group breaks the limits */
+    BSMP_BOARD_UNUSABLE = 1,      /* a record, the length of a store or of the sums, or a group breaks the limits */
     BSMP_BAD_ADDRESS = 2,         /* own address not 1 to 31, or the multicast byte's least bit not set */
     BSMP_REPLY_BUFFER_SHORT = 3,  /* under 4,104 bytes */
     BSMP_PACKET_LENGTH = 4,       /* under 2 or over 4,104 bytes */
@@ -162,12 +164,14 @@ struct bsmp_board {
     uint8_t multicast;     /* most significant bit is address 248, least is 255; the least is always set */
 };
 
-/* What changes. Each store has exactly the length that the records add up to. */
+/* What changes. Each store has exactly the length that the records add up to, and the sums have BSMP_SUM_SIZE for each curve. */
 struct bsmp_state {
     uint8_t *values; /* in order of number, each variable's value starts where the one before it ends */
     size_t values_length;
     uint8_t *blocks; /* the curves likewise, block after block */
     size_t blocks_length;
+    uint8_t *sums; /* the curves' sums likewise; bsmp_node_fresh fills them. Any bytes are taken: a sum may be stale */
+    size_t sums_length;
     struct bsmp_groups groups;
 };
 
@@ -201,9 +205,28 @@ struct bsmp_place {
     size_t size;
 };
 
+/* An MD5 by RFC 1321, its bytes in the order in which the RFC prints them. */
+struct bsmp_sum {
+    uint8_t bytes[BSMP_SUM_SIZE];
+};
+
 /* ---- A board and its state: what a board calls ----
  *
  * Refusal 1 looks at all that both structs hold; in the last four, which take no state, at the variable records only. */
+
+/* Works out the sum of every curve: the MD5 of all its bytes. To be called once before the first packet, and again whenever the
+ * board itself has changed bytes of a curve. Only the sums are written.
+ * Gives 0 or refusal 1, which changes nothing; so an unusable board shows here, before its first packet.
+ *
+ * A sum tells what its curve held when it was last worked out: by this call or, for one curve, read-only or not, by command 42.
+ * What changes the curve after that, command 41 or the board, leaves the sum as it was: stale. No call looks whether it is, and
+ * command 0A answers it as it stands. So a master that has sent a curve by 41 sends 42, then 0A, and compares the answer with
+ * the bsmp_md5 of what it sent.
+ *
+ * This call and 42 go through the curve's bytes: some 2 ns each on a PC; on a Cortex-M3 some 70 instructions each, or 10 if the
+ * library is built at opt-level 3. The reply to 42 waits for it. They take at most 1,280 bytes of stack beyond their arguments;
+ * all calls that work out no sum take at most 640, or 704 on a Cortex-M3. (ctest/stack.c measures both.) */
+static inline uint8_t bsmp_node_fresh(const struct bsmp_board *board, struct bsmp_state *state);
 
 /* One packet, all its bytes from the destination to the checksum.
  *   busy  bit n is set while messages may neither read nor write variable n, as long as the board renews it in several goes:
@@ -212,7 +235,7 @@ struct bsmp_place {
  * Refusals, in this order: 1 to 6. They change nothing.
  * Outcomes:
  *   BSMP_REPLY    to be sent. Of the reply buffer, only the reply's own bytes were written. If it is a wire error, no value,
- *                 block or group changed.
+ *                 block, sum or group changed.
  *   BSMP_SILENCE  a multicast packet was carried out, or was in error; nothing is to be sent.
  *   BSMP_RUN      the board is to run a function and say what came of it by one of the next three. Nothing was written, and
  *                 the library doesn't wait for it: other packets may come first. */
@@ -280,28 +303,33 @@ static inline uint8_t bsmp_checksum(const uint8_t *bytes, size_t length);
 /* A refusal in words, for a log. */
 static inline const char *bsmp_refusal_words(uint64_t refusal);
 
+/* The MD5 of a message of any length: of a download before it is sent, say. In time and stack it is like bsmp_node_fresh. */
+struct bsmp_sum bsmp_md5(const uint8_t *message, size_t length);
+
 /* ---- The library: the same over bare slices ----
  *
  * For who has no such structs: the face of another language, as rust/ is, or a program that keeps its records otherwise.
- * Each does what the function of its name above does, and bsmp_board_store what bsmp_node_store does; duties, outcomes and
- * refusals are the same. In place of the structs are lent:
+ * Each does what the function of its name above does, bsmp_board_store what bsmp_node_store does and bsmp_fresh_board what
+ * bsmp_node_fresh does; duties, outcomes and refusals are the same. In place of the structs are lent:
  *   variables  records, as above.
  *   curves     three numbers to a record, so curve_numbers is 3 times the curves; a record that is cut off breaks the limits.
  *   functions  two numbers to a record, likewise.
- *   values, blocks, groups, own, multicast   as above. */
+ *   values, blocks, sums, groups, own, multicast   as above. */
 
 struct bsmp_outcome bsmp_packet(const struct bsmp_variable *variables, size_t variable_count,
                                 const uint32_t *curves, size_t curve_numbers,
                                 const uint8_t *functions, size_t function_numbers,
                                 struct bsmp_groups *groups, uint8_t own, uint8_t multicast, uint64_t busy,
                                 uint8_t *values, size_t values_length, uint8_t *blocks, size_t blocks_length,
-                                const uint8_t *packet, size_t packet_length, uint8_t *reply, size_t reply_room);
+                                uint8_t *sums, size_t sums_length, const uint8_t *packet, size_t packet_length,
+                                uint8_t *reply, size_t reply_room);
 
 struct bsmp_outcome bsmp_function_result(const struct bsmp_variable *variables, size_t variable_count,
                                          const uint32_t *curves, size_t curve_numbers,
                                          const uint8_t *functions, size_t function_numbers,
                                          const struct bsmp_groups *groups, const uint8_t *values, size_t values_length,
-                                         const uint8_t *blocks, size_t blocks_length, size_t function, bool due,
+                                         const uint8_t *blocks, size_t blocks_length,
+                                         const uint8_t *sums, size_t sums_length, size_t function, bool due,
                                          bool failed, uint8_t error, const uint8_t *output, size_t output_length,
                                          uint8_t *reply, size_t reply_room);
 
@@ -309,8 +337,14 @@ uint8_t bsmp_board_store(const struct bsmp_variable *variables, size_t variable_
                          const uint32_t *curves, size_t curve_numbers,
                          const uint8_t *functions, size_t function_numbers,
                          const struct bsmp_groups *groups, uint8_t *values, size_t values_length,
-                         const uint8_t *blocks, size_t blocks_length, size_t variable,
-                         const uint8_t *bytes, size_t byte_count);
+                         const uint8_t *blocks, size_t blocks_length, const uint8_t *sums, size_t sums_length,
+                         size_t variable, const uint8_t *bytes, size_t byte_count);
+
+uint8_t bsmp_fresh_board(const struct bsmp_variable *variables, size_t variable_count,
+                         const uint32_t *curves, size_t curve_numbers,
+                         const uint8_t *functions, size_t function_numbers,
+                         const struct bsmp_groups *groups, const uint8_t *values, size_t values_length,
+                         const uint8_t *blocks, size_t blocks_length, uint8_t *sums, size_t sums_length);
 
 struct bsmp_signed_reading bsmp_read_signed(const struct bsmp_variable *variables, size_t variable_count, size_t variable,
                                             const uint8_t *bytes, size_t byte_count);
@@ -340,6 +374,7 @@ BSMP_ASSERT(offsetof(struct bsmp_outcome, input) == 2 * sizeof(size_t));
 BSMP_ASSERT(offsetof(struct bsmp_outcome, length) == 3 * sizeof(size_t));
 BSMP_ASSERT(sizeof(struct bsmp_signed_reading) == 16 && offsetof(struct bsmp_signed_reading, number) == 8);
 BSMP_ASSERT(sizeof(struct bsmp_unsigned_reading) == 16 && offsetof(struct bsmp_unsigned_reading, number) == 8);
+BSMP_ASSERT(sizeof(struct bsmp_sum) == 16);
 
 /* ---- How the inline functions do it ---- */
 
@@ -357,7 +392,12 @@ static inline const uint8_t *bsmp_node_function_numbers(const struct bsmp_board 
 #define BSMP_RECORDS                                                                                                        \
     board->variables, board->variable_count, bsmp_node_curve_numbers(board), 3 * board->curve_count,                        \
         bsmp_node_function_numbers(board), 2 * board->function_count
-#define BSMP_STORES state->values, state->values_length, state->blocks, state->blocks_length
+#define BSMP_STORES state->values, state->values_length, state->blocks, state->blocks_length, state->sums, state->sums_length
+
+static inline uint8_t bsmp_node_fresh(const struct bsmp_board *board, struct bsmp_state *state)
+{
+    return bsmp_fresh_board(BSMP_RECORDS, &state->groups, BSMP_STORES);
+}
 
 static inline struct bsmp_outcome bsmp_node_packet(const struct bsmp_board *board, struct bsmp_state *state, uint64_t busy,
                                                    const uint8_t *packet, size_t length, uint8_t *reply, size_t room)

@@ -13,7 +13,8 @@ struct ticks {
 static struct bsmp_variable variables[BSMP_MOST_VARIABLES];
 static struct bsmp_curve curves[BSMP_MOST_CURVES];
 static const struct bsmp_board large = {variables, BSMP_MOST_VARIABLES, curves, BSMP_MOST_CURVES, NULL, 0, 5, 1};
-static uint8_t values[BSMP_MOST_VALUE_BYTES], blocks[BSMP_MOST_CURVE_BYTES], packet[BSMP_MOST_PACKET], reply[BSMP_REPLY_ROOM];
+static uint8_t values[BSMP_MOST_VALUE_BYTES], blocks[BSMP_MOST_CURVE_BYTES], sums[BSMP_MOST_CURVES * BSMP_SUM_SIZE];
+static uint8_t packet[BSMP_MOST_PACKET], reply[BSMP_REPLY_ROOM];
 
 struct asked {
     const char *name;
@@ -52,8 +53,9 @@ static size_t make_packet(const struct asked *asked)
 
 static struct bsmp_state start_state(const struct asked *asked)
 {
-    struct bsmp_state state = {values, sizeof values, blocks, sizeof blocks, {0, {0, 0, 0, 0, 0}}};
-    return asked->board == &board_a ? board_a_fresh(values, blocks) : state;
+    struct bsmp_state state = {values, sizeof values, blocks, sizeof blocks, sums, sizeof sums, {0, {0, 0, 0, 0, 0}}};
+    if (asked->board == &board_a) board_a_fresh(&state, values, blocks, sums);
+    return state;
 }
 
 static bool measure(const struct asked *asked)

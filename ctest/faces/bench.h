@@ -124,6 +124,13 @@ static inline void set_blocks_length(struct bench *bench, size_t length)
     bench->state.blocks_length = length;
 }
 
+static inline void set_sums_length(struct bench *bench, size_t length)
+{
+    free(bench->state.sums);
+    bench->state.sums = heap(length);
+    bench->state.sums_length = length;
+}
+
 static inline void set_room(struct bench *bench, size_t room)
 {
     free(bench->reply);
@@ -142,7 +149,7 @@ static inline void start(struct bench *bench)
     bench->board.variables = bench->variables;
     bench->board.curves = bench->curves;
     bench->board.functions = bench->functions;
-    bench->state = board_a_fresh(heap(BOARD_A_VALUES), heap(BOARD_A_BLOCKS));
+    check_number("board A", board_a_fresh(&bench->state, heap(BOARD_A_VALUES), heap(BOARD_A_BLOCKS), heap(BOARD_A_SUMS)), 0);
     set_room(bench, BSMP_REPLY_ROOM);
 }
 
@@ -150,6 +157,7 @@ static inline void end(struct bench *bench)
 {
     free(bench->state.values);
     free(bench->state.blocks);
+    free(bench->state.sums);
     free(bench->reply);
 }
 
@@ -159,13 +167,18 @@ static inline uint64_t mixed(uint64_t digest, const void *bytes, size_t length)
     return digest;
 }
 
-/* Of the stores and the group table, so that "nothing changed" is one comparison. */
-static inline uint64_t digest(const struct bench *bench)
+/* Of the stores and the group table, and of the sums too, so that "nothing changed" is one comparison. */
+static inline uint64_t digest_but_sums(const struct bench *bench)
 {
     uint64_t digest = UINT64_C(14695981039346656037);
     digest = mixed(digest, bench->state.values, bench->state.values_length);
     digest = mixed(digest, bench->state.blocks, bench->state.blocks_length);
     return mixed(digest, &bench->state.groups, sizeof bench->state.groups);
+}
+
+static inline uint64_t digest(const struct bench *bench)
+{
+    return mixed(digest_but_sums(bench), bench->state.sums, bench->state.sums_length);
 }
 
 /* ---- Calls, by either way ---- */
@@ -178,7 +191,7 @@ static inline struct bsmp_outcome packet_by(int way, struct bench *bench, const 
     return bsmp_packet(bench->variables, board->variable_count, &bench->curves[0].writable, 3 * board->curve_count,
                        &bench->functions[0].input, 2 * board->function_count, &state->groups, board->own,
                        board->multicast, bench->busy, state->values, state->values_length, state->blocks,
-                       state->blocks_length, packet, length, bench->reply, bench->room);
+                       state->blocks_length, state->sums, state->sums_length, packet, length, bench->reply, bench->room);
 }
 
 struct result {
@@ -202,8 +215,8 @@ static inline struct bsmp_outcome result_by(int way, struct bench *bench, const 
     return bsmp_function_result(bench->variables, board->variable_count, &bench->curves[0].writable,
                                 3 * board->curve_count, &bench->functions[0].input, 2 * board->function_count,
                                 &state->groups, state->values, state->values_length, state->blocks,
-                                state->blocks_length, result->function, result->due, result->failed, result->error,
-                                output, length, bench->reply, bench->room);
+                                state->blocks_length, state->sums, state->sums_length, result->function, result->due,
+                                result->failed, result->error, output, length, bench->reply, bench->room);
 }
 
 static inline uint8_t store_by(int way, struct bench *bench, size_t variable, const uint8_t *bytes, size_t count)
@@ -213,7 +226,18 @@ static inline uint8_t store_by(int way, struct bench *bench, size_t variable, co
     if (way == INLINE) return bsmp_node_store(board, state, variable, bytes, count);
     return bsmp_board_store(bench->variables, board->variable_count, &bench->curves[0].writable, 3 * board->curve_count,
                             &bench->functions[0].input, 2 * board->function_count, &state->groups, state->values,
-                            state->values_length, state->blocks, state->blocks_length, variable, bytes, count);
+                            state->values_length, state->blocks, state->blocks_length, state->sums, state->sums_length,
+                            variable, bytes, count);
+}
+
+static inline uint8_t fresh_by(int way, struct bench *bench)
+{
+    const struct bsmp_board *board = &bench->board;
+    struct bsmp_state *state = &bench->state;
+    if (way == INLINE) return bsmp_node_fresh(board, state);
+    return bsmp_fresh_board(bench->variables, board->variable_count, &bench->curves[0].writable, 3 * board->curve_count,
+                            &bench->functions[0].input, 2 * board->function_count, &state->groups, state->values,
+                            state->values_length, state->blocks, state->blocks_length, state->sums, state->sums_length);
 }
 
 /* ---- What came of them: a reply's bytes, "silence", "run 0 with 07, due", "refused 5" ---- */
@@ -259,7 +283,7 @@ static inline bool is_wire_error(const struct bench *bench, const struct bsmp_ou
     return outcome->kind == BSMP_REPLY && bench->reply[1] > BSMP_WIRE_OK;
 }
 
-/* Sends a packet; refusals, runs and wire errors must leave stores and group table as they were. */
+/* Sends a packet; refusals, runs and wire errors must leave stores, sums and group table as they were. */
 static inline void expect_packet(struct bench *bench, int way, const char *packet_text, const char *expected)
 {
     uint8_t bytes[32];
@@ -271,7 +295,7 @@ static inline void expect_packet(struct bench *bench, int way, const char *packe
     struct bsmp_outcome outcome = packet_by(way, bench, packet, length);
     check_outcome(packet_text, way, bench, &outcome, packet, expected);
     if (outcome.kind == BSMP_REFUSED || outcome.kind == BSMP_RUN || is_wire_error(bench, &outcome))
-        check(digest(bench) == before, packet_text, "a store or the group table changed");
+        check(digest(bench) == before, packet_text, "a store, a sum or the group table changed");
     free(packet);
 }
 

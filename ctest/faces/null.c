@@ -6,7 +6,7 @@ static void try_no_curves_or_functions(void)
     static const uint8_t packet[] = {5, 0x08, 0, 0, 0xF3};
     uint8_t values[BOARD_A_VALUES] = {0}, *reply = heap(BSMP_REPLY_ROOM);
     struct bsmp_board board = {board_a_variables, 3, NULL, 0, NULL, 0, 5, 0x81};
-    struct bsmp_state state = {values, sizeof values, NULL, 0, {0, {0, 0, 0, 0, 0}}};
+    struct bsmp_state state = {values, sizeof values, NULL, 0, NULL, 0, {0, {0, 0, 0, 0, 0}}};
     struct bsmp_outcome outcome = bsmp_node_packet(&board, &state, 0, packet, sizeof packet, reply, BSMP_REPLY_ROOM);
     check_number("no curves, no functions: outcome", outcome.kind, BSMP_REPLY);
     check_text("no curves, no functions", INLINE, text_of(reply, outcome.length).text, "00 09 00 00 F7");
@@ -16,7 +16,7 @@ static void try_no_curves_or_functions(void)
 static void try_null_buffers(void)
 {
     static const struct bsmp_board nothing = {NULL, 0, NULL, 0, NULL, 0, 5, 0x81};
-    struct bsmp_state none = {NULL, 0, NULL, 0, {0, {0, 0, 0, 0, 0}}};
+    struct bsmp_state none = {NULL, 0, NULL, 0, NULL, 0, {0, {0, 0, 0, 0, 0}}};
     struct bench bench;
     start(&bench);
     struct bsmp_outcome outcome = bsmp_node_packet(&bench.board, &bench.state, 0, NULL, 0, bench.reply, bench.room);

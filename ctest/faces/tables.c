@@ -135,8 +135,8 @@ static void try_cut_records(void)
         struct bsmp_state *state = &bench.state;
         struct bsmp_outcome outcome = bsmp_packet(
             bench.variables, 3, &bench.curves[0].writable, numbers[i][0], &bench.functions[0].input, numbers[i][1],
-            &state->groups, 5, 0x81, 0, state->values, state->values_length, state->blocks, state->blocks_length, packet,
-            sizeof packet, bench.reply, bench.room);
+            &state->groups, 5, 0x81, 0, state->values, state->values_length, state->blocks, state->blocks_length, state->sums,
+            state->sums_length, packet, sizeof packet, bench.reply, bench.room);
         check_outcome("a record cut off", RAW, &bench, &outcome, packet, "refused 1");
         end(&bench);
     }

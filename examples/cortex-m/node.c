@@ -73,7 +73,7 @@ static void send(const uint8_t *bytes, size_t length)
 
 /* ---- The node ---- */
 
-static uint8_t values[BOARD_A_VALUES], blocks[BOARD_A_BLOCKS], reply[BSMP_REPLY_ROOM];
+static uint8_t values[BOARD_A_VALUES], blocks[BOARD_A_BLOCKS], sums[BOARD_A_SUMS], reply[BSMP_REPLY_ROOM];
 static struct bsmp_state state;
 
 /* Function 0 stands for a real board's work: 1000 divided by its input, most significant byte first, or error 1 if that is 0. */
@@ -95,10 +95,18 @@ static void answer(void)
     if (outcome.kind == BSMP_REPLY) send(reply, outcome.length);
 }
 
+/* Where it ends if the board's tables break the limits. Also where a trap of the library ends, which the proofs say never comes: a duty of
+ * the caller was broken, or the memory is damaged. A real board first puts its outputs where they do no harm. */
+static void fault(void)
+{
+    RESET_CONTROL = RESET_NOW;
+    for (;;) {}
+}
+
 /* Between two packets a real board would store what it measured, by bsmp_node_store. */
 static void serve(void)
 {
-    state = board_a_fresh(values, blocks);
+    if (board_a_fresh(&state, values, blocks, sums) != BSMP_NOT_REFUSED) fault();
     for (;;) {
         while (step != WHOLE) __asm__ volatile("wfi" ::: "memory");
         answer();
@@ -120,14 +128,6 @@ void reset(void)
     TICKS->control = TICKS_ON;
     INTERRUPTS_ON = 1u << UART_INTERRUPT;
     serve();
-}
-
-/* Also where a trap of the library ends, which the proofs say never comes: a duty of the caller was broken, or the memory is damaged. A real
- * board first puts its outputs where they do no harm. */
-static void fault(void)
-{
-    RESET_CONTROL = RESET_NOW;
-    for (;;) {}
 }
 
 struct vectors {
