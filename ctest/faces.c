@@ -53,7 +53,9 @@ int main(int count, char **arguments)
         try_packets(way);
         try_tables(way);
         try_results_and_stores(way);
+        try_sums(way);
     }
+    try_md5();
     try_null();
     try_readings();
     try_places_and_values();

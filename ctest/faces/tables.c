@@ -15,6 +15,11 @@ static void block_size_4097(struct bench *b) { b->curves[0].block_size = 4097; s
 static void no_blocks(struct bench *b) { b->curves[0].blocks = 0; set_blocks_length(b, 0); }
 static void blocks_short(struct bench *b) { set_blocks_length(b, BOARD_A_BLOCKS - 1); }
 static void blocks_long(struct bench *b) { set_blocks_length(b, BOARD_A_BLOCKS + 1); }
+static void sums_short(struct bench *b) { set_sums_length(b, BOARD_A_SUMS - 1); }
+static void sums_long(struct bench *b) { set_sums_length(b, BOARD_A_SUMS + 1); }
+static void no_sums(struct bench *b) { set_sums_length(b, 0); }
+static void sums_of_2_curves(struct bench *b) { set_sums_length(b, 2 * BSMP_SUM_SIZE); }
+static void sums_without_curves(struct bench *b) { b->board.curve_count = 0; set_blocks_length(b, 0); }
 static void input_16(struct bench *b) { b->functions[0].input = 16; }
 static void output_16(struct bench *b) { b->functions[0].output = 16; }
 static void functions_17(struct bench *b) { b->board.function_count = 17; }
@@ -47,6 +52,7 @@ static void curves_9(struct bench *b)
     for (size_t i = 0; i < 9; i++) b->curves[i].block_size = b->curves[i].blocks = 1;
     b->board.curve_count = 9;
     set_blocks_length(b, 9);
+    set_sums_length(b, 9 * BSMP_SUM_SIZE);
 }
 
 static void curves_of_69632(struct bench *b)
@@ -80,6 +86,11 @@ static const struct wrong {
     {"curves of 69,632 bytes", false, curves_of_69632},
     {"a store of blocks one byte short", false, blocks_short},
     {"a store of blocks one byte long", false, blocks_long},
+    {"sums one byte short", false, sums_short},
+    {"sums one byte long", false, sums_long},
+    {"no sums", false, no_sums},
+    {"sums of two curves for one", false, sums_of_2_curves},
+    {"sums without curves", false, sums_without_curves},
     {"17 functions", false, functions_17},
     {"an input of 16 bytes", false, input_16},
     {"an output of 16 bytes", false, output_16},
@@ -117,6 +128,7 @@ static void try_wrong(int way, const struct wrong *wrong)
     outcome = result_by(way, &bench, &result);
     check_outcome(wrong->name, way, &bench, &outcome, packet, "refused 1");
     check_number(wrong->name, store_by(way, &bench, 0, bytes, 4), BSMP_BOARD_UNUSABLE);
+    check_number(wrong->name, fresh_by(way, &bench), BSMP_BOARD_UNUSABLE);
     if (way == INLINE) try_wrong_values(&bench, wrong->name);
     check(digest(&bench) == before, wrong->name, "a refusal changed something");
     struct bsmp_signed_reading reading = bsmp_node_read_signed(&bench.board, 0, bytes, 4);
@@ -138,6 +150,11 @@ static void try_cut_records(void)
             &state->groups, 5, 0x81, 0, state->values, state->values_length, state->blocks, state->blocks_length, state->sums,
             state->sums_length, packet, sizeof packet, bench.reply, bench.room);
         check_outcome("a record cut off", RAW, &bench, &outcome, packet, "refused 1");
+        uint8_t refusal = bsmp_fresh_board(
+            bench.variables, 3, &bench.curves[0].writable, numbers[i][0], &bench.functions[0].input, numbers[i][1],
+            &state->groups, state->values, state->values_length, state->blocks, state->blocks_length, state->sums,
+            state->sums_length);
+        check_number("a record cut off", refusal, BSMP_BOARD_UNUSABLE);
         end(&bench);
     }
 }
