@@ -1,4 +1,5 @@
-/* How much stack each call needs, on the largest board: every command, every wire error, every refusal, every entry.
+/* How much stack each call needs, on the largest board: every command, every wire error, every refusal, every entry. Calls that work
+ * out sums have a limit of their own.
  *
  * Each call runs on a stack of its own that was painted before; the deepest byte that lost its paint says how far the call went.
  * The same call is also made to a function that returns at once. What that takes is the caller's: the arguments that it pushes,
@@ -12,6 +13,9 @@
 
 #ifndef MOST_STACK
 #define MOST_STACK 640
+#endif
+#ifndef MOST_SUM_STACK
+#define MOST_SUM_STACK 1280
 #endif
 
 /* ---- The board: 64 variables of 4,096 bytes, 8 curves of 65,536, 16 functions, five groups of all 64 ---- */
@@ -34,6 +38,7 @@ static uint64_t busy;
 static uint8_t reply[BSMP_REPLY_ROOM];
 static size_t room;
 static uint8_t bytes[BSMP_MOST_VARIABLE_SIZE];
+static const uint8_t zeros[BSMP_MOST_CURVE_BYTES];
 
 static void make_board(void)
 {
@@ -64,11 +69,12 @@ struct call {
     bool failed;
 };
 
-/* A reply is told by its command code. */
+/* A reply is told by its command code, a sum by its first byte. */
 enum { SILENT = 0x100, RUN = 0x101, DONE = 0x102, REFUSED = 0x200 };
 
 static struct bsmp_outcome outcome;
 static uint64_t refusal;
+static struct bsmp_sum sum;
 
 static unsigned outcome_ended(void)
 {
@@ -84,6 +90,8 @@ static unsigned refusal_ended(void)
 {
     return refusal == BSMP_NOT_REFUSED ? DONE : REFUSED + (unsigned)refusal;
 }
+
+static unsigned sum_ended(void) { return sum.bytes[0]; }
 
 /* `at_once` gives back the place for the outcome and does nothing else. `on_stack` runs a function on another stack, from its top down. */
 #define FUNCTION(name, ...) __asm__(".text\n.globl " #name "\n.type " #name ", %function\n" #name ":\n" __VA_ARGS__)
@@ -108,7 +116,7 @@ static const struct call *current;
 #define RECORDS \
     variables, board.variable_count, bsmp_node_curve_numbers(&board), 3 * board.curve_count, bsmp_node_function_numbers(&board), \
         2 * board.function_count
-#define STORES values, sizeof values, blocks, sizeof blocks, sums, sizeof sums
+#define STORES values, sizeof values, blocks, sizeof blocks, sums, state.sums_length
 
 static void call_packet(void)
 {
@@ -125,6 +133,16 @@ static void call_function_result(void)
 static void call_board_store(void)
 {
     refusal = ENTRY(bsmp_board_store)(RECORDS, &state.groups, STORES, current->number, bytes, current->length);
+}
+
+static void call_fresh_board(void)
+{
+    refusal = ENTRY(bsmp_fresh_board)(RECORDS, &state.groups, STORES);
+}
+
+static void call_md5(void)
+{
+    sum = ENTRY(bsmp_md5)(zeros, current->length);
 }
 
 static void call_read_signed(void)
@@ -163,11 +181,26 @@ static void to_all(void) { add_to_packet(0, 0xFF - 5); }
 static void size_wrong(void) { add_to_packet(3, 1); }
 static void six_groups(void) { state.groups.count = 6; }
 static void no_variables(void) { board.variable_count = 0; }
+static void no_sums(void) { state.sums_length = 0; }
 static void no_address(void) { board.own = 0; }
 static void room_short(void) { room = BSMP_REPLY_ROOM - 1; }
 static void packet_long(void) { packet_length = sizeof packet; }
 static void sum_wrong(void) { packet[packet_length - 1]++; }
 static void to_another(void) { add_to_packet(0, 1); }
+
+/* All bytes in one curve, which is the largest that there can be. */
+static void one_curve(void)
+{
+    curves[0].blocks = BSMP_MOST_CURVE_BYTES / BSMP_MOST_BLOCK_SIZE;
+    board.curve_count = 1;
+    state.sums_length = BSMP_SUM_SIZE;
+}
+
+static void one_curve_to_all(void)
+{
+    one_curve();
+    to_all();
+}
 
 /* ---- The calls ---- */
 
@@ -181,6 +214,7 @@ static const struct call packets[] = {
     {"04 list of groups", 0x05, .command = 0x04},
     {"06 group", 0x07, NULL, 0x06, ON(GROUP)},
     {"08 list of curves", 0x09, .command = 0x08},
+    {"0A read sum", 0x0B, NULL, 0x0A, ON(LAST_CURVE)},
     {"0C list of functions", 0x0D, .command = 0x0C},
     {"10 read variable", 0x11, NULL, 0x10, ON(LAST_VARIABLE)},
     {"12 read group", 0x13, NULL, 0x12, ON(GROUP)},
@@ -194,22 +228,54 @@ static const struct call packets[] = {
     {"40 read block", 0x41, NULL, 0x40, ON(LAST_CURVE, 0, 1)},
     {"41 write block", 0xE0, NULL, WHOLE_BLOCK},
     {"50 run function", RUN, NULL, 0x50, ON(LAST_FUNCTION), .rest = BSMP_MOST_INPUT},
+    {"0A to all", SILENT, to_all, 0x0A, ON(LAST_CURVE)},
     {"22 to all", SILENT, to_all, 0x22, ON(GROUP), .rest = BSMP_MOST_VALUE_BYTES},
     {"error E1", 0xE1, size_wrong, 0x22, ON(GROUP), .rest = BSMP_MOST_VALUE_BYTES},
     {"error E2", 0xE2, NULL, 0x26, ON(GROUP, 'Y'), .rest = BSMP_MOST_VALUE_BYTES},
     {"error E3", 0xE3, NULL, 0x22, ON(GROUP + 1), .rest = BSMP_MOST_VALUE_BYTES},
+    {"error E3 to 0A", 0xE3, NULL, 0x0A, ON(LAST_CURVE + 1)},
+    {"error E3 to 42", 0xE3, NULL, 0x42, ON(LAST_CURVE + 1)},
     {"error E4", 0xE4, NULL, 0x41, ON(LAST_CURVE, 0, 2), .rest = BSMP_MOST_BLOCK_SIZE},
     {"error E5", 0xE5, NULL, 0x26, ON(GROUP, 'X'), .rest = BSMP_MOST_VALUE_BYTES - 1},
+    {"error E5 to 0A", 0xE5, NULL, 0x0A, .rest = BSMP_MOST_BLOCK_SIZE},
+    {"error E5 to 42", 0xE5, NULL, 0x42, .rest = BSMP_MOST_BLOCK_SIZE},
     {"error E6", 0xE6, NULL, 0x41, ON(READ_ONLY_CURVE, 0, 1), .rest = BSMP_MOST_BLOCK_SIZE},
     {"error E7", 0xE7, NULL, 0x30, .rest = BSMP_MOST_VARIABLES},
     {"error E8", 0xE8, all_busy, 0x26, ON(GROUP, 'X'), .rest = BSMP_MOST_VALUE_BYTES},
     {"error E8 to a read", 0xE8, all_busy, 0x12, ON(GROUP)},
     {"refusal 1", REFUSED + 1, six_groups, WHOLE_BLOCK},
+    {"refusal 1 for the sums", REFUSED + 1, no_sums, WHOLE_BLOCK},
     {"refusal 2", REFUSED + 2, no_address, WHOLE_BLOCK},
     {"refusal 3", REFUSED + 3, room_short, WHOLE_BLOCK},
     {"refusal 4", REFUSED + 4, packet_long, WHOLE_BLOCK},
     {"refusal 5", REFUSED + 5, sum_wrong, WHOLE_BLOCK},
     {"refusal 6", REFUSED + 6, to_another, WHOLE_BLOCK},
+};
+
+static const struct call renewals[] = {
+    {"the last curve", 0xE0, NULL, 0x42, ON(LAST_CURVE)},
+    {"a read-only curve", 0xE0, NULL, 0x42, ON(READ_ONLY_CURVE)},
+    {"the largest curve", 0xE0, one_curve, 0x42, ON(0)},
+    {"the largest curve, to all", SILENT, one_curve_to_all, 0x42, ON(0)},
+};
+
+static const struct call fresh_boards[] = {
+    {.name = "done", .ends = DONE},
+    {.name = "the largest curve", .ends = DONE, .change = one_curve},
+};
+
+static const struct call refused_fresh_boards[] = {
+    {.name = "refusal 1", .ends = REFUSED + 1, .change = six_groups},
+    {.name = "refusal 1 for the sums", .ends = REFUSED + 1, .change = no_sums},
+};
+
+/* As many bytes as leave room for the length in the last chunk, one more, a whole chunk, and all of a curve. */
+static const struct call messages[] = {
+    {"no bytes", 0xD4, .length = 0},
+    {"55 bytes", 0xC9, .length = 55},
+    {"56 bytes", 0xE3, .length = 56},
+    {"64 bytes", 0x3B, .length = 64},
+    {"65,536 bytes", 0xFC, .length = BSMP_MOST_CURVE_BYTES},
 };
 
 static const struct call results[] = {
@@ -251,8 +317,11 @@ static uint8_t area[64 * 1024] __attribute__((aligned(64)));
 static void prepare(const struct call *call)
 {
     current = call;
+    make_board();
     board.variable_count = BSMP_MOST_VARIABLES;
+    board.curve_count = BSMP_MOST_CURVES;
     board.own = 5;
+    state.sums_length = sizeof sums;
     state.groups.count = BSMP_MOST_MADE_GROUPS;
     memset(state.groups.sets, 0xFF, sizeof state.groups.sets);
     busy = 0;
@@ -299,19 +368,24 @@ struct kind {
     void (*make)(void);
     void (*function)(void);
     unsigned (*ended)(void);
+    bool sums; /* whether its calls work out sums */
     const struct call *calls;
     size_t count;
 };
 
 #define CALLS(array) array, sizeof array / sizeof array[0]
 static const struct kind kinds[] = {
-    {"bsmp_packet", call_packet, (void (*)(void))bsmp_packet, outcome_ended, CALLS(packets)},
-    {"bsmp_function_result", call_function_result, (void (*)(void))bsmp_function_result, outcome_ended, CALLS(results)},
-    {"bsmp_board_store", call_board_store, (void (*)(void))bsmp_board_store, refusal_ended, CALLS(stores)},
-    {"bsmp_read_signed", call_read_signed, (void (*)(void))bsmp_read_signed, refusal_ended, CALLS(signed_readings)},
-    {"bsmp_read_unsigned", call_read_unsigned, (void (*)(void))bsmp_read_unsigned, refusal_ended, CALLS(unsigned_readings)},
-    {"bsmp_write_signed", call_write_signed, (void (*)(void))bsmp_write_signed, refusal_ended, CALLS(signed_writings)},
-    {"bsmp_write_unsigned", call_write_unsigned, (void (*)(void))bsmp_write_unsigned, refusal_ended, CALLS(unsigned_writings)},
+    {"bsmp_packet", call_packet, (void (*)(void))bsmp_packet, outcome_ended, false, CALLS(packets)},
+    {"bsmp_packet with 42", call_packet, (void (*)(void))bsmp_packet, outcome_ended, true, CALLS(renewals)},
+    {"bsmp_function_result", call_function_result, (void (*)(void))bsmp_function_result, outcome_ended, false, CALLS(results)},
+    {"bsmp_board_store", call_board_store, (void (*)(void))bsmp_board_store, refusal_ended, false, CALLS(stores)},
+    {"bsmp_fresh_board", call_fresh_board, (void (*)(void))bsmp_fresh_board, refusal_ended, true, CALLS(fresh_boards)},
+    {"bsmp_fresh_board refused", call_fresh_board, (void (*)(void))bsmp_fresh_board, refusal_ended, false, CALLS(refused_fresh_boards)},
+    {"bsmp_md5", call_md5, (void (*)(void))bsmp_md5, sum_ended, true, CALLS(messages)},
+    {"bsmp_read_signed", call_read_signed, (void (*)(void))bsmp_read_signed, refusal_ended, false, CALLS(signed_readings)},
+    {"bsmp_read_unsigned", call_read_unsigned, (void (*)(void))bsmp_read_unsigned, refusal_ended, false, CALLS(unsigned_readings)},
+    {"bsmp_write_signed", call_write_signed, (void (*)(void))bsmp_write_signed, refusal_ended, false, CALLS(signed_writings)},
+    {"bsmp_write_unsigned", call_write_unsigned, (void (*)(void))bsmp_write_unsigned, refusal_ended, false, CALLS(unsigned_writings)},
 };
 
 static int failures;
@@ -342,19 +416,22 @@ static size_t worst_of(const struct kind *kind)
 
 int main(void)
 {
+    static const unsigned limits[] = {MOST_STACK, MOST_SUM_STACK}; /* of the two sorts of call: without sums, and with them */
     size_t worst[sizeof kinds / sizeof kinds[0]];
-    size_t most = 0;
-    make_board();
+    unsigned most[] = {0, 0};
     for (size_t i = 0; i < sizeof kinds / sizeof kinds[0]; i++) worst[i] = worst_of(&kinds[i]);
     puts("Bytes of stack at most, beyond the arguments and the return address:");
     for (size_t i = 0; i < sizeof kinds / sizeof kinds[0]; i++) {
+        unsigned *of_its_sort = &most[kinds[i].sums];
         printf("%5u  %s\n", (unsigned)worst[i], kinds[i].name);
-        if (worst[i] > most) most = worst[i];
+        if (worst[i] > *of_its_sort) *of_its_sort = (unsigned)worst[i];
     }
-    if (most > MOST_STACK) {
-        printf("FAILED: a call needs %u bytes of stack; the limit is %d\n", (unsigned)most, MOST_STACK);
+    for (int sort = 0; sort < 2; sort++) {
+        if (most[sort] <= limits[sort]) continue;
+        printf("FAILED: a call that works out %s needs %u bytes of stack; the limit is %u\n", sort ? "sums" : "no sums", most[sort],
+               limits[sort]);
         failures++;
     }
-    printf("%u bytes of stack in the worst case, %d failed\n", (unsigned)most, failures);
+    printf("%u bytes of stack in the worst case, %u where sums are worked out, %d failed\n", most[0], most[1], failures);
     return failures != 0;
 }
