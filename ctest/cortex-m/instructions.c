@@ -29,6 +29,8 @@ static const struct asked all[] = {
     {"write of a variable, board A", &board_a, 0x20, {1}, 1, 1, 0xE0},
     {"read of a group of 3, board A", &board_a, 0x12, {0}, 1, 0, 0x13},
     {"version, board A", &board_a, 0x00, {0}, 0, 0, 0x01},
+    {"read of a sum, board A", &board_a, 0x0A, {0}, 1, 0, 0x0B},
+    {"renewal of the sum of 8 bytes, board A", &board_a, 0x42, {0}, 1, 0, 0xE0},
     {"read of variable 63", &large, 0x10, {63}, 1, 0, 0x11},
     {"write of variable 63", &large, 0x20, {63}, 1, 64, 0xE0},
     {"list of variables", &large, 0x02, {0}, 0, 0, 0x03},
@@ -36,6 +38,8 @@ static const struct asked all[] = {
     {"write of a group of 64", &large, 0x22, {0}, 1, 4096, 0xE0},
     {"read of a block of 4,096 bytes", &large, 0x40, {7, 0, 1}, 3, 0, 0x41},
     {"write of a block of 4,096 bytes", &large, 0x41, {7, 0, 1}, 3, 4096, 0xE0},
+    {"read of a sum", &large, 0x0A, {7}, 1, 0, 0x0B},
+    {"renewal of the sum of 8,192 bytes", &large, 0x42, {7}, 1, 0, 0xE0},
 };
 
 static size_t make_packet(const struct asked *asked)
