@@ -8,6 +8,7 @@ mod error_order;
 mod functions;
 mod groups;
 mod limits;
+mod md5;
 mod old_errors;
 mod packets;
 mod stores_and_readings;
