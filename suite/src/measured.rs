@@ -154,6 +154,7 @@ pub struct Second {
     busy: u64,
     variables: Vec<second::Variable>,
     groups: second::Groups,
+    sums: Vec<u8>,
     request: Vec<u8>,
     reply: Vec<u8>,
 }
@@ -164,6 +165,7 @@ impl Second {
         Second {
             variables: second_lent::variables(&lent),
             groups: second_lent::groups(&lent),
+            sums: second_lent::sums(&lent),
             busy: measured.busy,
             request: measured.request.clone(),
             reply: vec![0; MOST_PACKET],
@@ -186,6 +188,7 @@ impl Side for Second {
             self.busy,
             &mut self.lent.values,
             &mut self.lent.blocks,
+            &mut self.sums,
             &self.request,
             &mut self.reply,
         );

@@ -11,6 +11,8 @@ pub struct SecondLent {
     groups: second::Groups,
     pub values: Vec<u8>,
     pub blocks: Vec<u8>,
+    /// The curves' sums, 16 bytes each.
+    pub sums: Vec<u8>,
     /// For a reply, or for the bytes of a number.
     pub buffer: Vec<u8>,
 }
@@ -39,6 +41,11 @@ pub fn address(lent: &Lent) -> second::Address {
     }
 }
 
+/// A sum of zeros for each curve record.
+pub fn sums(lent: &Lent) -> Vec<u8> {
+    vec![0; 16 * (lent.curves.len() / 3)]
+}
+
 fn table<'a>(variables: &'a [second::Variable], lent: &'a Lent) -> second::Table<'a> {
     second::Table {
         variables,
@@ -55,6 +62,7 @@ impl SecondLent {
             groups: groups(lent),
             values: lent.values.clone(),
             blocks: lent.blocks.clone(),
+            sums: sums(lent),
             lent: lent.clone(),
             buffer: Vec::new(),
         }
@@ -69,6 +77,7 @@ impl SecondLent {
             busy,
             &mut self.values,
             &mut self.blocks,
+            &mut self.sums,
             request,
             &mut self.buffer,
         )
@@ -87,6 +96,7 @@ impl SecondLent {
             &self.groups,
             &self.values,
             &self.blocks,
+            &self.sums,
             function,
             due,
             ran,
@@ -102,8 +112,20 @@ impl SecondLent {
             &self.groups,
             &mut self.values,
             &self.blocks,
+            &self.sums,
             variable,
             bytes,
+        )
+    }
+
+    /// The second node's fresh board: every curve's sum is worked out.
+    pub fn fresh_board(&mut self) -> Result<(), u8> {
+        second::fresh_board(
+            &table(&self.variables, &self.lent),
+            &self.groups,
+            &self.values,
+            &self.blocks,
+            &mut self.sums,
         )
     }
 

@@ -3,7 +3,7 @@
 #![forbid(unsafe_code)]
 
 use std::io::{self, BufReader, BufWriter, ErrorKind, Read, Write};
-use suite::second::{packet, Address, Groups, Outcome, Table, Variable};
+use suite::second::{fresh_board, packet, Address, Groups, Outcome, Table, Variable};
 
 const PIECE: usize = 1 << 18;
 const RECORD_MOST: usize = 65_535;
@@ -41,6 +41,7 @@ struct State {
     groups: Groups,
     values: [u8; 7],
     blocks: [u8; 8],
+    sums: [u8; 16],
 }
 
 enum Record {
@@ -52,14 +53,7 @@ enum Record {
 fn main() -> io::Result<()> {
     let mut input = BufReader::with_capacity(PIECE, io::stdin().lock());
     let mut output = BufWriter::with_capacity(PIECE, io::stdout().lock());
-    let mut state = State {
-        groups: Groups {
-            count: 0,
-            sets: [0; 5],
-        },
-        values: [0xFF, 0xFF, 0xFF, 0xFD, 0x5A, 0x34, 0x12],
-        blocks: [0; 8],
-    };
+    let mut state = State::fresh().expect("board A is usable");
     let mut record = [0; RECORD_MOST];
     let mut reply = [0; REPLY];
     let mut line = Vec::with_capacity(2 * RECORD_MOST);
@@ -85,6 +79,24 @@ fn main() -> io::Result<()> {
 }
 
 impl State {
+    /// What board A starts with, its sum worked out.
+    fn fresh() -> Result<State, u8> {
+        let groups = Groups {
+            count: 0,
+            sets: [0; 5],
+        };
+        let values = [0xFF, 0xFF, 0xFF, 0xFD, 0x5A, 0x34, 0x12];
+        let blocks = [0; 8];
+        let mut sums = [0; 16];
+        fresh_board(&TABLE, &groups, &values, &blocks, &mut sums)?;
+        Ok(State {
+            groups,
+            values,
+            blocks,
+            sums,
+        })
+    }
+
     fn packet(&mut self, request: &[u8], reply: &mut [u8]) -> Outcome {
         packet(
             &TABLE,
@@ -93,6 +105,7 @@ impl State {
             0,
             &mut self.values,
             &mut self.blocks,
+            &mut self.sums,
             request,
             reply,
         )

@@ -1,6 +1,7 @@
-//! The board's records, their limits, and where each value and block stands in its store.
+//! The board's records, their limits, and where each value, block and sum stands.
 #![forbid(unsafe_code)]
 
+use super::md5::md5;
 use core::ops::Range;
 
 pub(super) const PLAIN: u8 = 0;
@@ -18,6 +19,9 @@ const BLOCKS_MOST: u32 = 65_536;
 const CURVE_BYTES_MOST: u32 = 65_536;
 const FUNCTIONS_MOST: usize = 16;
 const FUNCTION_BYTES_MOST: u8 = 15;
+
+/// The bytes of a curve's sum.
+const SUM: usize = 16;
 
 /// Groups 3 to 7 are made by message.
 pub(super) const MADE_MOST: usize = 5;
@@ -185,6 +189,21 @@ pub(super) struct Curve {
     pub(super) blocks: usize,
     /// Where its first block starts in the curves' store.
     pub(super) start: usize,
+    number: usize,
+}
+
+impl Curve {
+    /// Where its sum stands among the sums.
+    pub(super) fn sum_place(&self) -> Range<usize> {
+        let start = SUM * self.number;
+        start..start + SUM
+    }
+
+    /// Sets its sum to that of its whole content, all its blocks in order.
+    pub(super) fn renew_sum(&self, blocks: &[u8], sums: &mut [u8]) {
+        let content = self.start..self.start + self.block_size * self.blocks;
+        sums[self.sum_place()].copy_from_slice(&md5(&blocks[content]));
+    }
 }
 
 /// A usable board.
@@ -201,12 +220,14 @@ impl<'a> Board<'a> {
         groups: &Groups,
         values: usize,
         blocks: usize,
+        sums: usize,
     ) -> Option<Board<'a>> {
         let layout = Layout::of(table.variables)?;
         let curve_bytes = curve_bytes(table.curves)?;
         let fits = functions_usable(table.functions)
             && values == layout.total
             && blocks == curve_bytes
+            && sums == SUM * (table.curves.len() / 3)
             && groups.usable(layout.all);
         if !fits {
             return None;
@@ -221,7 +242,8 @@ impl<'a> Board<'a> {
     /// The curves in order of number: each starts where those before it end.
     pub(super) fn curves(&self) -> impl Iterator<Item = Curve> + 'a {
         let mut place = 0;
-        self.curves.chunks_exact(3).map(move |record| {
+        let records = self.curves.chunks_exact(3).enumerate();
+        records.map(move |(number, record)| {
             let block_size = record[1] as usize;
             let blocks = record[2] as usize;
             let start = place;
@@ -231,6 +253,7 @@ impl<'a> Board<'a> {
                 block_size,
                 blocks,
                 start,
+                number,
             }
         })
     }

@@ -32,6 +32,7 @@ pub(super) const VARIABLE_LIST: u8 = 0x03;
 pub(super) const GROUP_LIST: u8 = 0x05;
 pub(super) const GROUP: u8 = 0x07;
 pub(super) const CURVE_LIST: u8 = 0x09;
+pub(super) const CURVE_SUM: u8 = 0x0B;
 pub(super) const FUNCTION_LIST: u8 = 0x0D;
 pub(super) const VARIABLE_VALUE: u8 = 0x11;
 pub(super) const GROUP_VALUES: u8 = 0x13;

@@ -13,6 +13,7 @@ pub(super) enum Answer {
     GroupList,
     Group(u64),
     CurveList,
+    CurveSum(Range<usize>),
     FunctionList,
     VariableValue(u64),
     GroupValues(u64),
@@ -35,6 +36,7 @@ pub(super) struct Node<'a> {
     pub(super) busy: u64,
     pub(super) values: &'a mut [u8],
     pub(super) blocks: &'a mut [u8],
+    pub(super) sums: &'a mut [u8],
 }
 
 impl Node<'_> {
@@ -50,6 +52,7 @@ impl Node<'_> {
             0x04 => bare(payload, Answer::GroupList),
             0x06 => Ok(Answer::Group(self.group(one(payload)?)?.set)),
             0x08 => bare(payload, Answer::CurveList),
+            0x0A => self.read_sum(payload),
             0x0C => bare(payload, Answer::FunctionList),
             0x10 => self.read_variable(payload),
             0x12 => self.read_group(payload),
@@ -62,6 +65,7 @@ impl Node<'_> {
             0x32 => self.remove_groups(payload),
             0x40 => self.read_block(payload),
             0x41 => self.write_block(payload),
+            0x42 => self.renew_sum(payload),
             0x50 => self.run(payload),
             _ => Err(NOT_SUPPORTED),
         }
@@ -163,6 +167,18 @@ impl Node<'_> {
         Ok(Answer::Done)
     }
 
+    fn read_sum(&self, payload: &[u8]) -> Result<Answer, u8> {
+        let curve = self.curve(one(payload)?)?;
+        Ok(Answer::CurveSum(curve.sum_place()))
+    }
+
+    /// For read-only curves too (2026-02): the sum is no part of what they hold.
+    fn renew_sum(&mut self, payload: &[u8]) -> Result<Answer, u8> {
+        let curve = self.curve(one(payload)?)?;
+        curve.renew_sum(self.blocks, self.sums);
+        Ok(Answer::Done)
+    }
+
     fn run(&self, payload: &[u8]) -> Result<Answer, u8> {
         let ([function], input) = front(payload, PAYLOAD_SIZE)?;
         let function = usize::from(function);
@@ -205,10 +221,14 @@ impl Node<'_> {
         made.get(place).copied().ok_or(NO_SUCH_ID)
     }
 
+    fn curve(&self, id: u8) -> Result<Curve, u8> {
+        self.board.curves().nth(usize::from(id)).ok_or(NO_SUCH_ID)
+    }
+
     /// The named curve and where the named block stands in the curves' store.
     fn block(&self, front: [u8; 3]) -> Result<(Curve, Range<usize>), u8> {
         let [id, high, low] = front;
-        let curve = self.board.curves().nth(usize::from(id)).ok_or(NO_SUCH_ID)?;
+        let curve = self.curve(id)?;
         let block = usize::from(u16::from_be_bytes([high, low]));
         if block >= curve.blocks {
             return Err(BAD_VALUE);

@@ -10,5 +10,5 @@ mod reply;
 
 pub use board::{Address, Groups, Table, Variable};
 pub use md5::md5;
-pub use node::{board_store, function_result, packet, Outcome, Ran};
+pub use node::{board_store, fresh_board, function_result, packet, Outcome, Ran};
 pub use numbers::{read_signed, read_unsigned, write_signed, write_unsigned};

@@ -1,4 +1,4 @@
-//! The node: packets, function results and board stores.
+//! The node: packets, function results, board stores and fresh boards.
 #![forbid(unsafe_code)]
 
 use super::board::{Address, Board, Groups, Table};
@@ -42,10 +42,11 @@ pub fn packet(
     busy: u64,
     values: &mut [u8],
     blocks: &mut [u8],
+    sums: &mut [u8],
     request: &[u8],
     reply: &mut [u8],
 ) -> Outcome {
-    let board = match Board::usable(table, groups, values.len(), blocks.len()) {
+    let board = match Board::usable(table, groups, values.len(), blocks.len(), sums.len()) {
         Some(board) => board,
         None => return Outcome::Refused(BOARD_UNUSABLE),
     };
@@ -59,6 +60,7 @@ pub fn packet(
         busy,
         values,
         blocks,
+        sums,
     };
     match node.carry_out(&request[1..request.len() - 1]) {
         Ok(Answer::Run { function, input }) => Outcome::Run {
@@ -79,13 +81,14 @@ pub fn function_result(
     groups: &Groups,
     values: &[u8],
     blocks: &[u8],
+    sums: &[u8],
     function: usize,
     due: bool,
     ran: Ran,
     output: &[u8],
     reply: &mut [u8],
 ) -> Outcome {
-    let board = match Board::usable(table, groups, values.len(), blocks.len()) {
+    let board = match Board::usable(table, groups, values.len(), blocks.len(), sums.len()) {
         Some(board) => board,
         None => return Outcome::Refused(BOARD_UNUSABLE),
     };
@@ -114,10 +117,12 @@ pub fn board_store(
     groups: &Groups,
     values: &mut [u8],
     blocks: &[u8],
+    sums: &[u8],
     variable: usize,
     bytes: &[u8],
 ) -> Result<(), u8> {
-    let board = Board::usable(table, groups, values.len(), blocks.len()).ok_or(BOARD_UNUSABLE)?;
+    let board = Board::usable(table, groups, values.len(), blocks.len(), sums.len())
+        .ok_or(BOARD_UNUSABLE)?;
     if variable >= board.layout.variables.len() {
         return Err(NO_SUCH_VARIABLE);
     }
@@ -127,6 +132,22 @@ pub fn board_store(
     }
     for piece in board.layout.pieces(set) {
         values[piece].copy_from_slice(bytes);
+    }
+    Ok(())
+}
+
+/// Works out every curve's sum, as a fresh board does; refusal 1.
+pub fn fresh_board(
+    table: &Table,
+    groups: &Groups,
+    values: &[u8],
+    blocks: &[u8],
+    sums: &mut [u8],
+) -> Result<(), u8> {
+    let board = Board::usable(table, groups, values.len(), blocks.len(), sums.len())
+        .ok_or(BOARD_UNUSABLE)?;
+    for curve in board.curves() {
+        curve.renew_sum(blocks, sums);
     }
     Ok(())
 }

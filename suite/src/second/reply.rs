@@ -18,6 +18,10 @@ impl Node<'_> {
             Answer::GroupList => self.put_group_list(&mut reply),
             Answer::Group(set) => put_numbers(set, &mut reply),
             Answer::CurveList => self.put_curve_list(&mut reply),
+            Answer::CurveSum(place) => {
+                reply.put(&self.sums[place]);
+                CURVE_SUM
+            }
             Answer::FunctionList => self.put_function_list(&mut reply),
             Answer::VariableValue(set) => {
                 self.put_values(set, &mut reply);

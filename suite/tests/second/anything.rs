@@ -1,6 +1,6 @@
 //! Drawn at random: absurd tables, and any packet at all.
-use crate::bench::{variable, wire, Bench};
-use suite::packets::{COMMANDS, OPERATIONS};
+use crate::bench::{commands, variable, wire, Bench};
+use suite::packets::OPERATIONS;
 use suite::random::Random;
 use suite::second::{read_signed, write_unsigned, Outcome};
 
@@ -16,12 +16,13 @@ fn absurd_tables_end_in_an_outcome() {
     for _ in 0..20_000 {
         let mut bench = Bench::a();
         for _ in 0..random.below(3) {
-            match random.below(6) {
+            match random.below(7) {
                 0 => bench.variables = vec![variable(1, random.byte(), 0); 66],
                 1 => bench.curves = vec![1, random.below(9) as u32, random.number() as u32],
                 2 => bench.functions = small_bytes(&mut random, 40, 20),
                 3 => bench.groups.count = random.number() >> random.below(64),
-                4 => bench.values = small_bytes(&mut random, 9, 256),
+                4 => bench.sums = small_bytes(&mut random, 33, 256),
+                5 => bench.values = small_bytes(&mut random, 9, 256),
                 _ => bench.curves = vec![u32::MAX; random.below(30)],
             }
         }
@@ -40,10 +41,11 @@ fn any_packet_keeps_the_board_usable_and_an_error_changes_no_byte() {
     let mut random = Random::new(72);
     let records = [variable(1, 1, 0), variable(0, 2, 1), variable(1, 2, 4)];
     let mut bench = Bench::with(&records, &[1, 2, 3, 0, 1, 2], &[0, 0, 1, 1]);
+    let commands = commands();
     for _ in 0..50_000 {
         let before = bench.state();
         bench.busy = random.number() & random.number() & 0b111;
-        let command = random.choose(&COMMANDS);
+        let command = random.choose(&commands);
         let mut payload = small_bytes(&mut random, 7, 4);
         if matches!(command, 0x24 | 0x26) && payload.len() > 1 {
             payload[1] = random.choose(&OPERATIONS);
@@ -62,6 +64,9 @@ fn any_packet_keeps_the_board_usable_and_an_error_changes_no_byte() {
                 assert_eq!((number, destination), (6, 6));
                 assert_eq!(bench.state(), before);
             }
+        }
+        if command != 0x42 {
+            assert_eq!(bench.sums, before.2, "42 alone renews a sum");
         }
         assert_eq!(bench.values[1..3], [2, 3], "read-only");
         assert_eq!(bench.blocks[6..], [7, 8], "read-only");

@@ -1,10 +1,15 @@
 //! A board with the second node's entries over it, and what every call must keep to.
-use suite::packets::{message, packet};
+use suite::packets::{self, message, packet};
 use suite::second::{self, Address, Groups, Outcome, Ran, Table, Variable};
 use suite::whatif::bytes::bytes;
 
 pub const REPLY: usize = 4104;
 pub const UNTOUCHED: u8 = 0xA5;
+
+/// 01's command codes, and the two of 2026-02.
+pub fn commands() -> Vec<u8> {
+    [&packets::COMMANDS[..], &[0x0A, 0x42]].concat()
+}
 
 pub fn variable(writable: u8, size: u8, kind: u8) -> Variable {
     Variable {
@@ -25,14 +30,15 @@ pub struct Bench {
     pub busy: u64,
     pub values: Vec<u8>,
     pub blocks: Vec<u8>,
+    pub sums: Vec<u8>,
     pub reply: Vec<u8>,
 }
 
 /// What must stay as it is when an error or a refusal ends a call.
-pub type State = (Vec<u8>, Vec<u8>, Groups);
+pub type State = (Vec<u8>, Vec<u8>, Vec<u8>, Groups);
 
 impl Bench {
-    /// Board A.
+    /// Board A, fresh.
     pub fn a() -> Bench {
         Bench {
             variables: vec![variable(0, 4, 3), variable(1, 1, 0), variable(1, 2, 2)],
@@ -49,36 +55,37 @@ impl Bench {
             busy: 0,
             values: vec![0xFF, 0xFF, 0xFF, 0xFD, 0x5A, 0x34, 0x12],
             blocks: vec![0; 8],
+            sums: hex("7DEA362B3FAC8E00956A4952A3D4F474"),
             reply: vec![UNTOUCHED; REPLY],
         }
     }
 
-    /// A board with these records and stores of the right lengths, filled 1, 2, 3 and on.
+    /// A board with these records, and stores and sums of the right lengths, filled 1, 2, 3
+    /// and on: so its sums are stale.
     pub fn with(variables: &[Variable], curves: &[u32], functions: &[u8]) -> Bench {
         let values: usize = variables.iter().map(|v| usize::from(v.size)).sum();
         let blocks: u32 = curves.chunks_exact(3).map(|c| c[1] * c[2]).sum();
+        let filled = |length: usize| (1..=length).map(|n| n as u8).collect();
         Bench {
             variables: variables.to_vec(),
             curves: curves.to_vec(),
             functions: functions.to_vec(),
-            values: (0..values).map(|n| (n + 1) as u8).collect(),
-            blocks: (0..blocks).map(|n| (n + 1) as u8).collect(),
+            values: filled(values),
+            blocks: filled(blocks as usize),
+            sums: filled(16 * (curves.len() / 3)),
             ..Bench::a()
         }
     }
 
     pub fn state(&self) -> State {
-        (self.values.clone(), self.blocks.clone(), self.groups)
+        let (values, blocks) = (self.values.clone(), self.blocks.clone());
+        (values, blocks, self.sums.clone(), self.groups)
     }
 
     /// Calls with a fresh reply buffer; gives the outcome and the reply.
     pub fn outcome(&mut self, request: &[u8]) -> (Outcome, Vec<u8>) {
         self.reply.fill(UNTOUCHED);
-        let table = Table {
-            variables: &self.variables,
-            curves: &self.curves,
-            functions: &self.functions,
-        };
+        let table = table(&self.variables, &self.curves, &self.functions);
         let outcome = second::packet(
             &table,
             &mut self.groups,
@@ -86,6 +93,7 @@ impl Bench {
             self.busy,
             &mut self.values,
             &mut self.blocks,
+            &mut self.sums,
             request,
             &mut self.reply,
         );
@@ -140,16 +148,13 @@ impl Bench {
     /// Hands in a function's result, with a fresh reply buffer.
     pub fn result(&mut self, function: usize, due: bool, ran: Ran, output: &[u8]) -> Outcome {
         self.reply.fill(UNTOUCHED);
-        let table = Table {
-            variables: &self.variables,
-            curves: &self.curves,
-            functions: &self.functions,
-        };
+        let table = table(&self.variables, &self.curves, &self.functions);
         let outcome = second::function_result(
             &table,
             &self.groups,
             &self.values,
             &self.blocks,
+            &self.sums,
             function,
             due,
             ran,
@@ -161,19 +166,31 @@ impl Bench {
     }
 
     pub fn store(&mut self, number: usize, bytes: &[u8]) -> Result<(), u8> {
-        let table = Table {
-            variables: &self.variables,
-            curves: &self.curves,
-            functions: &self.functions,
-        };
+        let table = table(&self.variables, &self.curves, &self.functions);
         second::board_store(
             &table,
             &self.groups,
             &mut self.values,
             &self.blocks,
+            &self.sums,
             number,
             bytes,
         )
+    }
+
+    /// Works out every sum; a refusal changes none.
+    pub fn fresh(&mut self) -> Result<(), u8> {
+        let table = table(&self.variables, &self.curves, &self.functions);
+        let before = self.sums.clone();
+        let result = second::fresh_board(
+            &table,
+            &self.groups,
+            &self.values,
+            &self.blocks,
+            &mut self.sums,
+        );
+        assert!(result.is_ok() || self.sums == before);
+        result
     }
 
     /// Whether all entries that look at the whole board find it unusable.
@@ -183,8 +200,17 @@ impl Bench {
         let result = self.result(99, true, Ran::Failed(0), &[]) == Outcome::Refused(1);
         let store = self.store(99, &[]) == Err(1);
         assert_eq!(self.state(), before, "a refusal changes no byte");
-        assert!(packet == result && result == store);
+        let fresh = self.clone().fresh() == Err(1);
+        assert!(packet == result && result == store && store == fresh);
         packet
+    }
+}
+
+fn table<'a>(variables: &'a [Variable], curves: &'a [u32], functions: &'a [u8]) -> Table<'a> {
+    Table {
+        variables,
+        curves,
+        functions,
     }
 }
 

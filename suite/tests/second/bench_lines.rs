@@ -38,3 +38,29 @@ fn bench_run_runquiet_refused_and_cut() {
     );
     assert_eq!(bench_prints(&[]), "", "no header");
 }
+
+#[test]
+fn bench_starts_as_a_fresh_board() {
+    let read = record(&wire(5, 0x0A, &[0]));
+    let input = [
+        read.clone(),
+        record(&wire(5, 0x41, &[0, 0, 1, 7])),
+        read.clone(),
+        record(&wire(0xF8, 0x42, &[0])),
+        read.clone(),
+        record(&wire(5, 0x41, &[0, 0, 1, 0])),
+        record(&wire(5, 0x42, &[0])),
+        read,
+        record(&wire(5, 0x42, &[1])),
+    ];
+    let lines = "1 answer 000B00107DEA362B3FAC8E00956A4952A3D4F4742B\n\
+                 2 answer 00E0000020\n\
+                 3 answer 000B00107DEA362B3FAC8E00956A4952A3D4F4742B\n\
+                 4 silent\n\
+                 5 answer 000B0010B7CE8DB518FBD9F41AB773AF4C74915C9E\n\
+                 6 answer 00E0000020\n\
+                 7 answer 00E0000020\n\
+                 8 answer 000B00107DEA362B3FAC8E00956A4952A3D4F4742B\n\
+                 9 answer 00E300001D\n";
+    assert_eq!(bench_prints(&input.concat()), lines);
+}

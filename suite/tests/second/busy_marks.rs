@@ -9,6 +9,8 @@ fn marked(busy: u64) -> Bench {
         count: 1,
         sets: [0b101, 0, 0, 0, 0],
     };
+    // Stale, so that a 42 that a mark stopped would show.
+    bench.sums = vec![9; 16];
     bench.busy = busy;
     bench
 }
@@ -171,11 +173,13 @@ fn lists_groups_and_curves_go_by_no_mark() {
         (0x06, vec![0]),
         (0x06, vec![3]),
         (0x08, vec![]),
+        (0x0A, vec![0]),
         (0x0C, vec![]),
         (0x30, vec![0, 1, 2]),
         (0x32, vec![]),
         (0x40, vec![0, 0, 1]),
         (0x41, vec![0, 0, 1, 9]),
+        (0x42, vec![0]),
     ];
     for (command, payload) in requests {
         goes_by_no_mark(u64::MAX, command, &payload);

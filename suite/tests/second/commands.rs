@@ -1,11 +1,12 @@
 //! The commands: their codes, operations, lists and blocks.
-use crate::bench::{variable, Bench};
-use suite::packets::{COMMANDS, OPERATIONS};
+use crate::bench::{commands, variable, Bench};
+use suite::packets::OPERATIONS;
 
 #[test]
 fn the_command_codes_are_these_and_no_others_the_rest_get_e2() {
+    let commands = commands();
     for command in 0..=255u8 {
-        if !COMMANDS.contains(&command) {
+        if !commands.contains(&command) {
             assert_eq!(Bench::a().error(command, &[]), 0xE2, "{:02X}", command);
             assert_eq!(Bench::a().error(command, &[0; 99]), 0xE2);
         }

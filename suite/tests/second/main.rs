@@ -1,4 +1,4 @@
-//! The second node by itself, held against the sentences of 01 as 2026-01 amends it.
+//! The second node by itself, held against the sentences of 01 as 2026-01 and 2026-02 amend it.
 mod anything;
 mod bench;
 mod bench_lines;
