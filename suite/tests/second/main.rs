@@ -12,3 +12,4 @@ mod md5;
 mod old_errors;
 mod packets;
 mod stores_and_readings;
+mod sums;
