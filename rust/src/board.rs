@@ -5,10 +5,14 @@ use std::ops::Range;
 pub const MOST_VARIABLES: usize = 64;
 /// The most bytes that all variables together may have.
 pub const MOST_VALUE_BYTES: usize = 4096;
+/// The most curves that a board may have.
+pub const MOST_CURVES: usize = 8;
 /// The most blocks that a curve may have.
 pub const MOST_BLOCKS: usize = 65536;
 /// The most bytes that all curves together may have.
 pub const MOST_CURVE_BYTES: usize = 65536;
+/// How many bytes a curve's sum has.
+pub const SUM_SIZE: usize = 16;
 /// The longest packet.
 pub const MOST_PACKET: usize = 4104;
 /// The least length of a reply buffer.
@@ -239,6 +243,11 @@ impl Board {
             sum.saturating_add(u64::from(curve.block_size) * u64::from(curve.blocks))
         });
         bytes.min(MOST_CURVE_BYTES as u64) as usize
+    }
+
+    /// The length of the curves' sums, 16 bytes each. Past the most that 01 allows no length is right, and the most is given.
+    pub fn sums_length(&self) -> usize {
+        self.curves.len().min(MOST_CURVES) * SUM_SIZE
     }
 }
 

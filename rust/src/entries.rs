@@ -1,14 +1,16 @@
-//! The seven entries over what a board lends. Nothing is allocated. Each takes anything, and refuses by number.
+//! The nine entries over what a board lends. Nothing is allocated. Each takes anything, and refuses by number.
 use crate::outcome::done;
 use crate::raw;
 use crate::{
     Address, FunctionNumber, Groups, Outcome, Ran, Refusal, Table, Variable, VariableNumber,
+    SUM_SIZE,
 };
 
 /// Carries out one packet and writes the reply, if one is due.
 ///
 /// `values` is the variables' store and `blocks` the curves' store, each of exactly the length that the records add up
-/// to; bit n of `busy` marks variable n as busy, so that it is neither read nor written. Refusals 1 to 6.
+/// to. `sums` has 16 bytes for each curve, its sum: 0A reads it, 42 renews it, and a block write leaves it stale. Bit n
+/// of `busy` marks variable n as busy, so that it is neither read nor written. Refusals 1 to 6.
 #[allow(clippy::too_many_arguments)]
 pub fn packet<'packet, 'reply>(
     table: &Table,
@@ -17,6 +19,7 @@ pub fn packet<'packet, 'reply>(
     busy: u64,
     values: &mut [u8],
     blocks: &mut [u8],
+    sums: &mut [u8],
     packet: &'packet [u8],
     reply: &'reply mut [u8],
 ) -> Outcome<'packet, 'reply> {
@@ -37,6 +40,8 @@ pub fn packet<'packet, 'reply>(
             values.len(),
             blocks.as_mut_ptr(),
             blocks.len(),
+            sums.as_mut_ptr(),
+            sums.len(),
             packet.as_ptr(),
             packet.len(),
             reply.as_mut_ptr(),
@@ -55,15 +60,13 @@ pub fn function_result<'reply>(
     groups: &Groups,
     values: &[u8],
     blocks: &[u8],
+    sums: &[u8],
     function: FunctionNumber,
     due: bool,
     ran: Ran,
     reply: &'reply mut [u8],
 ) -> Outcome<'static, 'reply> {
-    let (failed, error, output) = match ran {
-        Ran::Gave(output) => (false, 0, output),
-        Ran::Failed(error) => (true, error, &[][..]),
-    };
+    let (failed, error, output) = ran.numbers();
     // SAFETY: as for `packet`.
     let told = unsafe {
         raw::bsmp_function_result(
@@ -78,6 +81,8 @@ pub fn function_result<'reply>(
             values.len(),
             blocks.as_ptr(),
             blocks.len(),
+            sums.as_ptr(),
+            sums.len(),
             function.0,
             due,
             failed,
@@ -97,6 +102,7 @@ pub fn board_store(
     groups: &Groups,
     values: &mut [u8],
     blocks: &[u8],
+    sums: &[u8],
     variable: VariableNumber,
     bytes: &[u8],
 ) -> Result<(), Refusal> {
@@ -114,9 +120,54 @@ pub fn board_store(
             values.len(),
             blocks.as_ptr(),
             blocks.len(),
+            sums.as_ptr(),
+            sums.len(),
             variable.0,
             bytes.as_ptr(),
             bytes.len(),
+        )
+    };
+    done(refusal.into(), ())
+}
+
+/// Works out the sums of all curves from what they hold, and writes nothing else. Refusal 1.
+///
+/// For a board that is switched on, before its first packet, and for one that changed its curves itself.
+///
+/// ```
+/// use cruachvel::{fresh_board, md5, Curve, Groups, Kind, Table, Variable};
+///
+/// let variables = [Variable::writable(1, Kind::Plain)];
+/// let curves = [Curve::read_only(4, 2), Curve::writable(1, 3)];
+/// let table = Table::new(&variables, &curves, &[]);
+/// let (blocks, mut sums) = (b"heat 40 spi", [0; 2 * 16]);
+/// fresh_board(&table, &Groups::NONE, &[0], blocks, &mut sums)?;
+/// assert_eq!(sums[..], [md5(b"heat 40 "), md5(b"spi")].concat());
+/// # Ok::<(), cruachvel::Refusal>(())
+/// ```
+pub fn fresh_board(
+    table: &Table,
+    groups: &Groups,
+    values: &[u8],
+    blocks: &[u8],
+    sums: &mut [u8],
+) -> Result<(), Refusal> {
+    // SAFETY: as for `packet`.
+    let refusal = unsafe {
+        raw::bsmp_fresh_board(
+            table.variables.as_ptr(),
+            table.variables.len(),
+            table.curves.as_ptr(),
+            table.curves.len(),
+            table.functions.as_ptr(),
+            table.functions.len(),
+            groups,
+            values.as_ptr(),
+            values.len(),
+            blocks.as_ptr(),
+            blocks.len(),
+            sums.as_mut_ptr(),
+            sums.len(),
         )
     };
     done(refusal.into(), ())
@@ -169,6 +220,20 @@ pub fn write_unsigned(
         number,
         buffer,
     )
+}
+
+/// The sum that curves have, of any bytes: MD5 by RFC 1321, in the order in which the RFC prints a digest.
+///
+/// So a program that sent a curve can tell whether it arrived.
+///
+/// ```
+/// let digest = cruachvel::md5(b"message digest");
+/// let printed: String = digest.iter().map(|byte| format!("{:02x}", byte)).collect();
+/// assert_eq!(printed, "f96b697d7cb7938d525a2f31aaf161d0"); // as the RFC's own suite has it
+/// ```
+pub fn md5(message: &[u8]) -> [u8; SUM_SIZE] {
+    // SAFETY: as for `packet`.
+    unsafe { raw::bsmp_md5(message.as_ptr(), message.len()) }.bytes
 }
 
 // One of the two readings.

@@ -1,9 +1,9 @@
 //! A BSMP 2.20 node for small boards: the safe Rust face of a library whose meaning is proved.
 //!
 //! One packet and a board's state give one [`Outcome`] and the next state. [`Node`] owns a board and is the easy way;
-//! the seven entries ([`packet`], [`function_result`], [`board_store`], [`read_signed`], [`read_unsigned`],
-//! [`write_signed`], [`write_unsigned`]) work on lent slices and allocate nothing. Every input is taken: what doesn't
-//! fit ends in a [`Refusal`] that changes nothing.
+//! the nine entries ([`packet`], [`function_result`], [`board_store`], [`fresh_board`], [`read_signed`],
+//! [`read_unsigned`], [`write_signed`], [`write_unsigned`], [`md5`]) work on lent slices and allocate nothing. Every input
+//! is taken: what doesn't fit ends in a [`Refusal`] that changes nothing.
 //!
 //! ```
 //! use cruachvel::{packet, Address, Groups, Kind, Outcome, Table, Variable, REPLY_ROOM};
@@ -13,7 +13,8 @@
 //! let address = Address { own: 5, multicast: 0x81 };
 //! let (mut groups, mut values, mut reply) = (Groups::NONE, [0x5A], [0; REPLY_ROOM]);
 //! let invert = [0x05, 0x24, 0x00, 0x03, 0x00, 0x54, 0x0F, 0x71]; // invert the low four bits of variable 0
-//! let outcome = packet(&table, &mut groups, address, 0, &mut values, &mut [], &invert, &mut reply);
+//! let (curves, sums) = (&mut [], &mut []); // this board has none
+//! let outcome = packet(&table, &mut groups, address, 0, &mut values, curves, sums, &invert, &mut reply);
 //! assert_eq!(outcome, Outcome::Reply(&[0x00, 0xE0, 0x00, 0x00, 0x20]));
 //! assert_eq!(values, [0x55]);
 //! ```
@@ -32,10 +33,12 @@ pub mod wire;
 
 pub use board::{
     Address, Board, Curve, Function, FunctionNumber, Groups, Kind, Table, Variable, VariableNumber,
-    MOST_BLOCKS, MOST_CURVE_BYTES, MOST_PACKET, MOST_VALUE_BYTES, MOST_VARIABLES, REPLY_ROOM,
+    MOST_BLOCKS, MOST_CURVES, MOST_CURVE_BYTES, MOST_PACKET, MOST_VALUE_BYTES, MOST_VARIABLES,
+    REPLY_ROOM, SUM_SIZE,
 };
 pub use entries::{
-    board_store, function_result, packet, read_signed, read_unsigned, write_signed, write_unsigned,
+    board_store, fresh_board, function_result, md5, packet, read_signed, read_unsigned,
+    write_signed, write_unsigned,
 };
 pub use node::{Node, State};
 pub use outcome::{Outcome, Ran, Refusal};

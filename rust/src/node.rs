@@ -11,18 +11,35 @@ pub struct State {
     pub values: Vec<u8>,
     /// The curves' store, block after block.
     pub blocks: Vec<u8>,
+    /// The curves' sums, 16 bytes each. A sum may be stale: it is that of what the curve held when it was worked out last.
+    pub sums: Vec<u8>,
     /// The group table.
     pub groups: Groups,
 }
 
 impl State {
-    /// All bytes 0 and no made groups, with stores of the lengths that the board's records add up to.
+    /// All bytes 0 and no made groups, with stores of the lengths that the board's records add up to, and the sums that
+    /// curves of zeros have. For a board that is refused the sums are 0 too.
     pub fn fresh(board: &Board) -> State {
-        State {
+        let mut state = State {
             values: vec![0; board.values_length()],
             blocks: vec![0; board.blocks_length()],
+            sums: vec![0; board.sums_length()],
             groups: Groups::NONE,
-        }
+        };
+        // Refused it changes nothing, and every call on the board will say so.
+        let _ = state.work_out_sums(board);
+        state
+    }
+
+    fn work_out_sums(&mut self, board: &Board) -> Result<(), Refusal> {
+        entries::fresh_board(
+            &board.table(),
+            &self.groups,
+            &self.values,
+            &self.blocks,
+            &mut self.sums,
+        )
     }
 }
 
@@ -71,6 +88,28 @@ impl State {
 /// }
 /// assert_eq!(outcome, Outcome::Reply(&[0x00, 0x51, 0x00, 0x01, 0x07, 0xA7]));
 /// ```
+///
+/// Each curve has a sum, by which the line sees whether a download arrived. 0A reads it; a block write leaves it stale, and
+/// 42 renews it:
+///
+/// ```
+/// # use cruachvel::{md5, Address, Board, Curve, Kind, Node, Outcome, Variable, REPLY_ROOM};
+/// let mut node = Node::new(Board {
+///     variables: vec![Variable::read_only(2, Kind::SignedBig)],
+///     curves: vec![Curve::writable(4, 1)],
+///     functions: vec![],
+///     address: Address { own: 5, multicast: 0x01 },
+/// });
+/// let mut reply = [0; REPLY_ROOM];
+/// let block = [0x05, 0x41, 0x00, 0x07, 0x00, 0x00, 0x00, 0x57, 0x41, 0x53, 0x48, 0x80]; // WASH
+/// node.packet(&block, &mut reply);
+/// assert_eq!(node.state.sums, md5(&[0; 4]));
+/// node.packet(&[0x05, 0x42, 0x00, 0x01, 0x00, 0xB8], &mut reply);
+/// assert_eq!(node.state.sums, md5(b"WASH"));
+/// if let Outcome::Reply(told) = node.packet(&[0x05, 0x0A, 0x00, 0x01, 0x00, 0xF0], &mut reply) {
+///     assert_eq!(told[4..20], md5(b"WASH"));
+/// }
+/// ```
 #[derive(Clone, Debug, PartialEq, Eq)]
 pub struct Node {
     /// The board.
@@ -93,13 +132,19 @@ impl Node {
         Node::with_state(board, state)
     }
 
-    /// A node that starts from a given state.
+    /// A node that starts from a given state, its sums too: [`Node::fresh`] works them out.
     pub fn with_state(board: Board, state: State) -> Node {
         Node {
             board,
             state,
             busy: 0,
         }
+    }
+
+    /// Works out all sums from what the curves hold: once before the first packet of a node that was given a state, and
+    /// whenever the board itself changed curve bytes. Refusal 1.
+    pub fn fresh(&mut self) -> Result<(), Refusal> {
+        self.state.work_out_sums(&self.board)
     }
 
     /// Carries out one packet. Refusals 1 to 6.
@@ -115,6 +160,7 @@ impl Node {
             self.busy,
             &mut self.state.values,
             &mut self.state.blocks,
+            &mut self.state.sums,
             packet,
             reply,
         )
@@ -133,6 +179,7 @@ impl Node {
             &self.state.groups,
             &self.state.values,
             &self.state.blocks,
+            &self.state.sums,
             function,
             due,
             ran,
@@ -147,6 +194,7 @@ impl Node {
             &self.state.groups,
             &mut self.state.values,
             &self.state.blocks,
+            &self.state.sums,
             variable,
             bytes,
         )

@@ -8,7 +8,7 @@ use std::fmt;
 #[derive(Clone, Copy, Debug, PartialEq, Eq, Hash)]
 #[repr(u8)]
 pub enum Refusal {
-    /// A record, store length or group breaks the table of 01.
+    /// A record, store length (that of the sums too) or group breaks the table of 01.
     BoardUnusable = 1,
     /// Own address or multicast byte breaks it.
     BadAddress = 2,
@@ -141,6 +141,16 @@ pub enum Ran<'a> {
     Gave(&'a [u8]),
     /// It failed with this error byte: reply 53.
     Failed(u8),
+}
+
+impl<'a> Ran<'a> {
+    // Whether it failed, the error byte and the output; what doesn't count is 0 or empty.
+    pub(crate) fn numbers(self) -> (bool, u8, &'a [u8]) {
+        match self {
+            Ran::Gave(output) => (false, 0, output),
+            Ran::Failed(error) => (true, error, &[]),
+        }
+    }
 }
 
 // Refusal 0 is none.

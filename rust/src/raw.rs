@@ -2,7 +2,7 @@
 //!
 //! Duties that the safe functions of this crate keep, and that nothing checks here: every pointer is valid for its
 //! length (it may be null only where the length is 0), and what is lent to be written overlaps nothing else that is lent.
-use crate::{Groups, Variable};
+use crate::{Groups, Variable, SUM_SIZE};
 use std::mem::{align_of, size_of};
 
 /// How a call ends, in numbers. What a kind has no use for is 0.
@@ -54,6 +54,14 @@ pub struct ToldUnsigned {
     pub number: u64,
 }
 
+/// A sum.
+#[repr(C)]
+#[derive(Clone, Copy, Debug, PartialEq, Eq)]
+pub struct ToldSum {
+    /// Its bytes, in the order in which RFC 1321 prints a digest.
+    pub bytes: [u8; SUM_SIZE],
+}
+
 // The archive's layouts; a build in which they differ must not exist.
 const _: () = {
     assert!(size_of::<usize>() == 4 || size_of::<usize>() == 8);
@@ -64,6 +72,7 @@ const _: () = {
     );
     assert!(size_of::<ToldSigned>() == 16 && align_of::<ToldSigned>() == 8);
     assert!(size_of::<ToldUnsigned>() == 16 && align_of::<ToldUnsigned>() == 8);
+    assert!(size_of::<ToldSum>() == 16 && align_of::<ToldSum>() == 1);
 };
 
 extern "C" {
@@ -83,6 +92,8 @@ extern "C" {
         values_length: usize,
         blocks: *mut u8,
         blocks_length: usize,
+        sums: *mut u8,
+        sums_length: usize,
         packet: *const u8,
         packet_length: usize,
         reply: *mut u8,
@@ -102,6 +113,8 @@ extern "C" {
         values_length: usize,
         blocks: *const u8,
         blocks_length: usize,
+        sums: *const u8,
+        sums_length: usize,
         function: usize,
         due: bool,
         failed: bool,
@@ -125,9 +138,28 @@ extern "C" {
         values_length: usize,
         blocks: *const u8,
         blocks_length: usize,
+        sums: *const u8,
+        sums_length: usize,
         variable: usize,
         bytes: *const u8,
         bytes_length: usize,
+    ) -> u8;
+
+    /// [`crate::fresh_board`] in numbers: 0, or the refusal's.
+    pub fn bsmp_fresh_board(
+        variables: *const Variable,
+        variable_count: usize,
+        curves: *const u32,
+        curve_numbers: usize,
+        functions: *const u8,
+        function_numbers: usize,
+        groups: *const Groups,
+        values: *const u8,
+        values_length: usize,
+        blocks: *const u8,
+        blocks_length: usize,
+        sums: *mut u8,
+        sums_length: usize,
     ) -> u8;
 
     /// [`crate::read_signed`] in numbers.
@@ -167,6 +199,9 @@ extern "C" {
         buffer: *mut u8,
         buffer_length: usize,
     ) -> u8;
+
+    /// [`crate::md5`] in numbers.
+    pub fn bsmp_md5(message: *const u8, message_length: usize) -> ToldSum;
 }
 
 #[cfg(test)]

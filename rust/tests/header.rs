@@ -23,6 +23,7 @@ fn limits() {
     let limits = [
         ("MOST_VARIABLES", cruachvel::MOST_VARIABLES),
         ("MOST_VALUE_BYTES", cruachvel::MOST_VALUE_BYTES),
+        ("MOST_CURVES", cruachvel::MOST_CURVES),
         ("MOST_BLOCKS", cruachvel::MOST_BLOCKS),
         ("MOST_CURVE_BYTES", cruachvel::MOST_CURVE_BYTES),
         ("MOST_PACKET", cruachvel::MOST_PACKET),

@@ -1,13 +1,22 @@
 //! The owned node and the types of the face.
 use cruachvel::{
-    Address, Board, Curve, Function, FunctionNumber, Groups, Kind, Node, Outcome, Ran, Refusal,
-    State, Variable, VariableNumber, MOST_CURVE_BYTES, MOST_VALUE_BYTES, REPLY_ROOM,
+    md5, Address, Board, Curve, Function, FunctionNumber, Groups, Kind, Node, Outcome, Ran,
+    Refusal, State, Variable, VariableNumber, MOST_CURVES, MOST_CURVE_BYTES, MOST_VALUE_BYTES,
+    REPLY_ROOM, SUM_SIZE,
 };
 
 const SIGNED: VariableNumber = VariableNumber(0);
 const PLAIN: VariableNumber = VariableNumber(1);
 const UNSIGNED: VariableNumber = VariableNumber(2);
 const NONE: [VariableNumber; 2] = [VariableNumber(3), VariableNumber(usize::MAX)];
+
+// The sum of board A's curve, eight zero bytes, and the packets that read and renew it.
+const SUM: [u8; SUM_SIZE] = [
+    0x7D, 0xEA, 0x36, 0x2B, 0x3F, 0xAC, 0x8E, 0x00, 0x95, 0x6A, 0x49, 0x52, 0xA3, 0xD4, 0xF4, 0x74,
+];
+const READ_SUM: [u8; 6] = [0x05, 0x0A, 0x00, 0x01, 0x00, 0xF0];
+const RENEW_SUM: [u8; 6] = [0x05, 0x42, 0x00, 0x01, 0x00, 0xB8];
+const OK: Outcome = Outcome::Reply(&[0x00, 0xE0, 0x00, 0x00, 0x20]);
 
 fn board_a() -> Board {
     Board {
@@ -33,9 +42,19 @@ fn node_a() -> Node {
     let state = State {
         values,
         blocks: vec![0; 8],
+        sums: SUM.to_vec(),
         groups: Groups::NONE,
     };
     Node::with_state(board_a(), state)
+}
+
+// The sum that 0A of curve 0 is answered with.
+fn sum_read(node: &mut Node) -> Vec<u8> {
+    let mut reply = [0; REPLY_ROOM];
+    match node.packet(&READ_SUM, &mut reply) {
+        Outcome::Reply([0x00, 0x0B, 0x00, 0x10, sum @ .., _]) => sum.to_vec(),
+        other => panic!("no sum: {:?}", other),
+    }
 }
 
 #[test]
@@ -71,6 +90,7 @@ fn refusals_have_the_numbers_and_words_of_01() {
 fn a_fresh_node_has_stores_of_the_lengths_that_its_records_add_up_to() {
     let mut node = Node::new(board_a());
     assert_eq!((node.state.values.len(), node.state.blocks.len()), (7, 8));
+    assert_eq!(node.state.sums, SUM);
     let version = Outcome::Reply(&[0x00, 0x01, 0x00, 0x03, 0x02, 0x14, 0x00, 0xE6]);
     let mut reply = [0; REPLY_ROOM];
     assert_eq!(
@@ -172,9 +192,11 @@ fn numbers_that_can_t_be_stored_are_refused_and_change_nothing() {
 // Each leaves the variable records as they are, so that a reading alone would see nothing wrong.
 #[test]
 fn of_an_unusable_board_nothing_else_is_said() {
-    let spoils: [fn(&mut Node); 4] = [
+    let spoils: [fn(&mut Node); 6] = [
         |node| node.state.values.truncate(6),
         |node| node.state.blocks.push(0),
+        |node| node.state.sums.truncate(15),
+        |node| node.state.sums.extend(SUM),
         |node| node.state.groups.count = 6,
         |node| node.board.functions[0].input = 16,
     ];
@@ -190,6 +212,7 @@ fn of_an_unusable_board_nothing_else_is_said() {
             assert_eq!(node.value_unsigned(variable), Err(unusable));
             assert_eq!(node.value(variable), Err(unusable));
             assert_eq!(node.place(variable), Err(unusable));
+            assert_eq!(node.fresh(), Err(unusable));
         }
         assert_eq!(node, spoilt);
     }
@@ -279,6 +302,7 @@ fn an_absurd_board_is_refused_by_each_call() {
         (node.state.values.len(), node.state.blocks.len()),
         (MOST_VALUE_BYTES, MOST_CURVE_BYTES)
     );
+    assert_eq!(node.state.sums, [0; MOST_CURVES * SUM_SIZE]);
     let unusable = Refusal::BoardUnusable;
     assert_eq!(node.packet(&[], &mut []), Outcome::Refused(unusable));
     let result = node.function_result(FunctionNumber(0), true, Ran::Failed(0), &mut []);
@@ -287,6 +311,88 @@ fn an_absurd_board_is_refused_by_each_call() {
     assert_eq!(node.store_signed(VariableNumber(0), 0), Err(unusable));
     assert_eq!(node.read_unsigned(VariableNumber(0), &[]), Err(unusable));
     assert_eq!(node.value(VariableNumber(299)), Err(unusable));
+    assert_eq!(node.fresh(), Err(unusable));
+}
+
+#[test]
+fn a_sum_is_read_in_the_order_of_the_rfc() {
+    let mut node = node_a();
+    let mut reply = [0; REPLY_ROOM];
+    let sum = [&[0x00, 0x0B, 0x00, 0x10][..], &SUM, &[0x2B]].concat();
+    assert_eq!(node.packet(&READ_SUM, &mut reply), Outcome::Reply(&sum));
+    assert_eq!(node, node_a());
+}
+
+#[test]
+fn a_block_write_leaves_a_sum_stale_and_42_renews_it() {
+    for destination in [0x05, 0xF8] {
+        let mut node = Node::new(board_a());
+        let mut reply = [0; REPLY_ROOM];
+        let write = [0x05, 0x41, 0x00, 0x05, 0x00, 0x00, 0x01, 0x66, 0x77, 0xD7];
+        assert_eq!(node.packet(&write, &mut reply), OK);
+        assert_eq!(sum_read(&mut node), SUM);
+        let mut renew = RENEW_SUM;
+        renew[0] = destination;
+        renew[5] = renew[5].wrapping_add(0x05).wrapping_sub(destination);
+        let expected = if destination == 0x05 {
+            OK
+        } else {
+            Outcome::Silence
+        };
+        assert_eq!(node.packet(&renew, &mut reply), expected);
+        assert_eq!(sum_read(&mut node), md5(&[0, 0, 0, 0, 0x66, 0x77, 0, 0]));
+        assert_eq!(node.state.sums, md5(&node.state.blocks));
+    }
+}
+
+#[test]
+fn a_read_only_curve_s_sum_is_renewed_too() {
+    let mut board = board_a();
+    board.curves[0] = Curve::read_only(4, 2);
+    let mut node = Node::new(board);
+    node.state.blocks.fill(9);
+    node.busy = u64::MAX;
+    assert_eq!(node.packet(&RENEW_SUM, &mut [0; REPLY_ROOM]), OK);
+    assert_eq!(sum_read(&mut node), md5(&[9; 8]));
+}
+
+#[test]
+fn a_given_state_gets_its_sums_by_fresh() {
+    let mut board = board_a();
+    board.curves.push(Curve::read_only(3, 1));
+    let mut node = Node::new(board);
+    node.state.blocks = (1..=11).collect();
+    node.state.sums.fill(0xAA);
+    let mut expected = node.clone();
+    expected.state.sums = [md5(&[1, 2, 3, 4, 5, 6, 7, 8]), md5(&[9, 10, 11])].concat();
+    assert_eq!(node.fresh(), Ok(()));
+    assert_eq!(node, expected);
+}
+
+#[test]
+fn a_wrong_payload_of_0a_and_42_gets_e5_and_no_such_curve_e3() {
+    let mut node = node_a();
+    let mut reply = [0; REPLY_ROOM];
+    let mut answer = |command: u8, payload: &[u8]| {
+        let mut packet = vec![0x05, command, 0x00, payload.len() as u8];
+        packet.extend(payload);
+        packet.push(
+            packet
+                .iter()
+                .fold(0, |sum: u8, byte| sum.wrapping_sub(*byte)),
+        );
+        match node.packet(&packet, &mut reply) {
+            Outcome::Reply(reply) => reply[1],
+            other => panic!("{:02X?} ended in {:?}", packet, other),
+        }
+    };
+    for command in [0x0A, 0x42] {
+        for payload in [&[][..], &[0, 0], &[1, 0]] {
+            assert_eq!(answer(command, payload), 0xE5, "{:02X}", command);
+        }
+        assert_eq!(answer(command, &[1]), 0xE3, "{:02X}", command);
+    }
+    assert_eq!(node, node_a());
 }
 
 #[test]
