@@ -2,9 +2,14 @@
 use crate::lent::{all_declared, values_length, Lent};
 use crate::random::Random;
 use cruachvel::{Address, Curve, Groups, Kind, Variable};
-use cruachvel::{MOST_BLOCKS, MOST_CURVE_BYTES, MOST_VALUE_BYTES, MOST_VARIABLES};
+use cruachvel::{MOST_BLOCKS, MOST_CURVE_BYTES, MOST_VALUE_BYTES, MOST_VARIABLES, SUM_SIZE};
 
-/// Board A of 01.
+// Written out, and not worked out, so that it is an opinion too.
+const SUM_OF_8_ZEROS: [u8; SUM_SIZE] = [
+    0x7D, 0xEA, 0x36, 0x2B, 0x3F, 0xAC, 0x8E, 0x00, 0x95, 0x6A, 0x49, 0x52, 0xA3, 0xD4, 0xF4, 0x74,
+];
+
+/// Board A of 01, fresh.
 pub fn board_a() -> Lent {
     Lent {
         variables: vec![
@@ -21,6 +26,7 @@ pub fn board_a() -> Lent {
         },
         values: vec![0xFF, 0xFF, 0xFF, 0xFD, 0x5A, 0x34, 0x12],
         blocks: vec![0; 8],
+        sums: SUM_OF_8_ZEROS.to_vec(),
     }
 }
 
@@ -39,11 +45,23 @@ pub fn usable(random: &mut Random) -> Lent {
         },
         values: Vec::new(),
         blocks: Vec::new(),
+        sums: Vec::new(),
     };
     lent.refit();
     random.fill(&mut lent.values);
     random.fill(&mut lent.blocks);
+    let mut lent = lent.fresh();
+    spoil_sums(random, &mut lent.sums);
     lent
+}
+
+// Half of them are anything, as a sum is whose curve was written since.
+fn spoil_sums(random: &mut Random, sums: &mut [u8]) {
+    for sum in sums.chunks_mut(SUM_SIZE) {
+        if random.once_in(2) {
+            random.fill(sum);
+        }
+    }
 }
 
 // Few variables more often than many, since small boards are quick; the limits themselves often enough.

@@ -3,6 +3,7 @@ mod calls;
 mod digest;
 mod proved_side;
 mod second_side;
+mod sums;
 mod tally;
 
 use crate::boards;
@@ -13,7 +14,7 @@ use crate::random::Random;
 use crate::second;
 use crate::second_lent::SecondLent;
 use calls::{draw, Call};
-use cruachvel::{Outcome, Refusal};
+use cruachvel::{Groups, Outcome, Refusal};
 use digest::Digest;
 use proved_side::Proved;
 use std::fmt;
@@ -122,7 +123,7 @@ impl Differ {
         }
     }
 
-    /// Of the calls so far: how they ended, the buffers, stores and group tables that they left.
+    /// Of the calls so far: how they ended, the buffers, stores, sums and group tables that they left.
     pub fn digest(&self) -> Option<u64> {
         self.digest.as_ref().map(|digest| digest.0)
     }
@@ -187,6 +188,7 @@ impl Differ {
 
     fn call(&mut self, second: &mut SecondLent) -> Result<(), Difference> {
         let call = draw(&mut self.random, second);
+        let sums = second.sums.clone();
         if second.buffer.len() != call.room {
             second.buffer.resize(call.room, 0xA5);
             self.proved.buffer.put(self.proved.edge, &second.buffer);
@@ -197,7 +199,7 @@ impl Differ {
         if let Some(what) = self.proved.differing(second, &call, &told, &ending) {
             return Err(self.difference(second, &call, &told, &ending, what));
         }
-        self.tally.note(&call, &ending, &second.buffer);
+        self.tally.note(&call, &ending, &sums, second);
         if let Some(digest) = &mut self.digest {
             digest.note(&told, &self.proved);
         }
@@ -217,8 +219,8 @@ impl Differ {
             "seed {}, call {}: the nodes differ in {}\n\
              board: {:?}, own {}, multicast {:02X}, stores of {} and {} bytes\n\
              call: {:02X?}\n\
-             proved node: {:?}\n  groups {:X?}\n  values {:02X?}\n  buffer {:02X?}\n\
-             second node: {:?}\n  groups {:X?}\n  values {:02X?}\n  buffer {:02X?}\n\
+             proved node: {}\n\
+             second node: {}\n\
              first place where the curves' stores differ: {:?}",
             self.seed,
             self.tally.calls + 1,
@@ -229,14 +231,16 @@ impl Differ {
             second.values.len(),
             second.blocks.len(),
             call,
-            told,
-            proved.groups[0],
-            &proved.values[..],
-            start(&proved.buffer),
-            ending,
-            second.groups(),
-            second.values,
-            start(&second.buffer),
+            left(
+                told,
+                &proved.groups[0],
+                [&proved.values, &proved.sums, &proved.buffer]
+            ),
+            left(
+                ending,
+                &second.groups(),
+                [&second.values, &second.sums, &second.buffer]
+            ),
             proved
                 .blocks
                 .iter()
@@ -246,7 +250,11 @@ impl Differ {
     }
 }
 
-// As much of a buffer as is worth printing.
-fn start(bytes: &[u8]) -> &[u8] {
-    &bytes[..bytes.len().min(64)]
+// How a call ended on one of the nodes and what it left, of the buffer as much as is worth printing.
+fn left(ending: &Ending, groups: &Groups, [values, sums, buffer]: [&[u8]; 3]) -> String {
+    let start = &buffer[..buffer.len().min(64)];
+    format!(
+        "{:?}\n  groups {:X?}\n  values {:02X?}\n  sums {:02X?}\n  buffer {:02X?}",
+        ending, groups, values, sums, start
+    )
 }

@@ -1,7 +1,7 @@
 //! Every way in which 01's table of the board can be broken, by name.
 use crate::boards::fill_up;
 use crate::lent::{all_declared, values_length, Lent};
-use cruachvel::{Curve, Kind, Variable, MOST_BLOCKS, MOST_VALUE_BYTES, MOST_VARIABLES};
+use cruachvel::{Curve, Kind, Variable, MOST_BLOCKS, MOST_VALUE_BYTES, MOST_VARIABLES, SUM_SIZE};
 
 type Change = Box<dyn Fn(&mut Lent) + Send + Sync>;
 
@@ -279,9 +279,10 @@ fn of_functions(faults: &mut Vec<Fault>) {
 
 fn of_stores(faults: &mut Vec<Fault>) {
     type Store = fn(&mut Lent) -> &mut Vec<u8>;
-    let stores: [(&str, Store); 2] = [
+    let stores: [(&str, Store); 3] = [
         ("variables'", |lent| &mut lent.values),
         ("curves'", |lent| &mut lent.blocks),
+        ("sums'", |lent| &mut lent.sums),
     ];
     const ONE: [Curve; 1] = [Curve::writable(4, 2)];
     for (name, store) in stores {
@@ -310,6 +311,19 @@ fn of_stores(faults: &mut Vec<Fault>) {
         with_curves(&ONE),
         moved,
     );
+    of_sums(faults);
+}
+
+// The sums are of a whole number of curves, but of too few or too many; or what one store lacks is too much in the other.
+fn of_sums(faults: &mut Vec<Fault>) {
+    const TWO: [Curve; 2] = [Curve::writable(4, 2), Curve::read_only(2, 8)];
+    let fewer = |lent: &mut Lent| lent.sums.truncate(SUM_SIZE);
+    add(faults, "one sum for two curves", with_curves(&TWO), fewer);
+    let more = |lent: &mut Lent| lent.sums.extend([0; SUM_SIZE]);
+    add(faults, "three sums for two curves", with_curves(&TWO), more);
+    add(faults, "a sum without curves", with_curves(&[]), more);
+    let moved = |lent: &mut Lent| lent.blocks.extend(lent.sums.split_off(SUM_SIZE));
+    add(faults, "a sum among the blocks", with_curves(&TWO), moved);
 }
 
 fn of_groups(faults: &mut Vec<Fault>) {

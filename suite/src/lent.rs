@@ -1,9 +1,9 @@
 //! What a board lends, and the proved node's entries over it.
 use crate::packets::packet;
 use cruachvel::{
-    Address, FunctionNumber, Groups, Outcome, Ran, Refusal, Table, Variable, VariableNumber,
+    md5, Address, FunctionNumber, Groups, Outcome, Ran, Refusal, Table, Variable, VariableNumber,
 };
-use cruachvel::{MOST_CURVE_BYTES, MOST_PACKET};
+use cruachvel::{MOST_CURVE_BYTES, MOST_PACKET, SUM_SIZE};
 use std::ops::Range;
 
 /// Everything that a board lends to a call, right or wrong.
@@ -16,6 +16,16 @@ pub struct Lent {
     pub address: Address,
     pub values: Vec<u8>,
     pub blocks: Vec<u8>,
+    pub sums: Vec<u8>,
+}
+
+// The same by reference: the records, and beside them what a call may write.
+struct Parts<'a> {
+    table: Table<'a>,
+    groups: &'a mut Groups,
+    values: &'a mut [u8],
+    blocks: &'a mut [u8],
+    sums: &'a mut [u8],
 }
 
 /// The longest store that is ever lent; a board whose records add up to more gets one that is shorter than that.
@@ -27,6 +37,20 @@ impl Lent {
             variables: &self.variables,
             curves: &self.curves,
             functions: &self.functions,
+        }
+    }
+
+    fn parts(&mut self) -> Parts<'_> {
+        Parts {
+            table: Table {
+                variables: &self.variables,
+                curves: &self.curves,
+                functions: &self.functions,
+            },
+            groups: &mut self.groups,
+            values: &mut self.values,
+            blocks: &mut self.blocks,
+            sums: &mut self.sums,
         }
     }
 
@@ -43,19 +67,16 @@ impl Lent {
         request: &'p [u8],
         reply: &'r mut [u8],
     ) -> Outcome<'p, 'r> {
-        let table = Table {
-            variables: &self.variables,
-            curves: &self.curves,
-            functions: &self.functions,
-        };
-        let (values, blocks) = (&mut self.values, &mut self.blocks);
+        let address = self.address;
+        let lent = self.parts();
         cruachvel::packet(
-            &table,
-            &mut self.groups,
-            self.address,
+            &lent.table,
+            lent.groups,
+            address,
             busy,
-            values,
-            blocks,
+            lent.values,
+            lent.blocks,
+            lent.sums,
             request,
             reply,
         )
@@ -79,14 +100,13 @@ impl Lent {
         ran: Ran,
         reply: &'r mut [u8],
     ) -> Outcome<'static, 'r> {
-        let (values, blocks) = (&self.values, &self.blocks);
-        let function = FunctionNumber(function);
         cruachvel::function_result(
             &self.table(),
             &self.groups,
-            values,
-            blocks,
-            function,
+            &self.values,
+            &self.blocks,
+            &self.sums,
+            FunctionNumber(function),
             due,
             ran,
             reply,
@@ -95,26 +115,67 @@ impl Lent {
 
     /// The proved node's board store.
     pub fn board_store(&mut self, variable: usize, bytes: &[u8]) -> Result<(), Refusal> {
-        let table = Table {
-            variables: &self.variables,
-            curves: &self.curves,
-            functions: &self.functions,
-        };
-        let variable = VariableNumber(variable);
+        let lent = self.parts();
         cruachvel::board_store(
-            &table,
-            &self.groups,
-            &mut self.values,
-            &self.blocks,
-            variable,
+            &lent.table,
+            lent.groups,
+            lent.values,
+            lent.blocks,
+            lent.sums,
+            VariableNumber(variable),
             bytes,
         )
     }
 
-    /// Brings both stores to the lengths that the records add up to; new bytes are 0.
+    /// The proved node's fresh board: all sums are worked out.
+    pub fn fresh_board(&mut self) -> Result<(), Refusal> {
+        let lent = self.parts();
+        cruachvel::fresh_board(
+            &lent.table,
+            lent.groups,
+            lent.values,
+            lent.blocks,
+            lent.sums,
+        )
+    }
+
+    /// Brings stores and sums to the lengths that the records add up to; new bytes are 0.
     pub fn refit(&mut self) {
         self.values.resize(values_length(&self.variables), 0);
         self.blocks.resize(blocks_length(&self.curves), 0);
+        self.sums.resize(sums_length(&self.curves), 0);
+    }
+
+    /// This board as it is when it is switched on: of the right lengths, with its sums worked out. Where it is unusable, they stay.
+    pub fn fresh(mut self) -> Lent {
+        self.refit();
+        let _ = self.fresh_board();
+        self
+    }
+
+    /// Where the bytes of a curve stand in the store, if that is as long as the records say.
+    pub fn curve_place(&self, curve: usize) -> Range<usize> {
+        let length = |record: &[u32]| (record[1] as usize).saturating_mul(record[2] as usize);
+        let mut lengths = self.curves.chunks_exact(3).map(length);
+        let before = lengths.by_ref().take(curve);
+        let start = before.fold(0, usize::saturating_add);
+        start..start.saturating_add(lengths.next().unwrap_or(0))
+    }
+
+    /// A curve's bytes, as far as the store has them.
+    pub fn curve_bytes(&self, curve: usize) -> &[u8] {
+        let (place, end) = (self.curve_place(curve), self.blocks.len());
+        &self.blocks[place.start.min(end)..place.end.min(end)]
+    }
+
+    /// A curve's sum, as far as there is one.
+    pub fn sum(&self, curve: usize) -> &[u8] {
+        self.sums.chunks(SUM_SIZE).nth(curve).unwrap_or(&[])
+    }
+
+    /// Whether the curve holds something else than what its sum is of.
+    pub fn is_stale(&self, curve: usize) -> bool {
+        self.sum(curve) != md5(self.curve_bytes(curve))
     }
 
     /// The sets of groups 0 to 7, those that exist; bit n stands for variable n.
@@ -155,6 +216,11 @@ pub fn all_declared(count: usize) -> u64 {
 /// How many bytes these variables have together.
 pub fn values_length(variables: &[Variable]) -> usize {
     variables.iter().map(|v| usize::from(v.size)).sum()
+}
+
+/// How many bytes the sums of these curves have together; a record that is cut off has none.
+pub fn sums_length(curves: &[u32]) -> usize {
+    curves.len() / 3 * SUM_SIZE
 }
 
 // Where the true sum is absurd, the sum that 32 bits would keep is the one that might deceive.

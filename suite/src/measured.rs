@@ -90,7 +90,7 @@ fn on_full_boards() -> Vec<Measured> {
 
 // As many records of each sort as a board may have, and as many bytes of curves.
 fn full_board() -> Lent {
-    let mut lent = Lent {
+    let lent = Lent {
         variables: vec![Variable::writable(4, Kind::UnsignedBig); 64],
         curves: Curve::numbers(&[Curve::writable(4096, 2); 8]).to_vec(),
         functions: [1, 2].repeat(16),
@@ -104,9 +104,9 @@ fn full_board() -> Lent {
         },
         values: Vec::new(),
         blocks: Vec::new(),
+        sums: Vec::new(),
     };
-    lent.refit();
-    lent
+    lent.fresh()
 }
 
 /// A node that gets the same packet again and again, and what it replies.
@@ -154,7 +154,6 @@ pub struct Second {
     busy: u64,
     variables: Vec<second::Variable>,
     groups: second::Groups,
-    sums: Vec<u8>,
     request: Vec<u8>,
     reply: Vec<u8>,
 }
@@ -165,7 +164,6 @@ impl Second {
         Second {
             variables: second_lent::variables(&lent),
             groups: second_lent::groups(&lent),
-            sums: second_lent::sums(&lent),
             busy: measured.busy,
             request: measured.request.clone(),
             reply: vec![0; MOST_PACKET],
@@ -188,7 +186,7 @@ impl Side for Second {
             self.busy,
             &mut self.lent.values,
             &mut self.lent.blocks,
-            &mut self.sums,
+            &mut self.lent.sums,
             &self.request,
             &mut self.reply,
         );

@@ -11,7 +11,6 @@ pub struct SecondLent {
     groups: second::Groups,
     pub values: Vec<u8>,
     pub blocks: Vec<u8>,
-    /// The curves' sums, 16 bytes each.
     pub sums: Vec<u8>,
     /// For a reply, or for the bytes of a number.
     pub buffer: Vec<u8>,
@@ -41,11 +40,6 @@ pub fn address(lent: &Lent) -> second::Address {
     }
 }
 
-/// A sum of zeros for each curve record.
-pub fn sums(lent: &Lent) -> Vec<u8> {
-    vec![0; 16 * (lent.curves.len() / 3)]
-}
-
 fn table<'a>(variables: &'a [second::Variable], lent: &'a Lent) -> second::Table<'a> {
     second::Table {
         variables,
@@ -62,7 +56,7 @@ impl SecondLent {
             groups: groups(lent),
             values: lent.values.clone(),
             blocks: lent.blocks.clone(),
-            sums: sums(lent),
+            sums: lent.sums.clone(),
             lent: lent.clone(),
             buffer: Vec::new(),
         }

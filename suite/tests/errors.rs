@@ -9,7 +9,7 @@ const TRIES: usize = 60;
 
 // Of every sort one thing that can be written and one that can't, so that any error can be had without another.
 fn rich_board() -> Lent {
-    let mut lent = Lent {
+    let lent = Lent {
         variables: vec![
             Variable::read_only(4, Kind::SignedBig),
             Variable::writable(3, Kind::Plain),
@@ -29,9 +29,9 @@ fn rich_board() -> Lent {
         },
         values: Vec::new(),
         blocks: Vec::new(),
+        sums: Vec::new(),
     };
-    lent.refit();
-    lent
+    lent.fresh()
 }
 
 // The same with five groups made, which is what E7 needs.

@@ -11,7 +11,7 @@ fn board(variables: &[(u8, u8)], curves: &[Curve], functions: &[u8]) -> Lent {
         size,
         kind: Kind::Plain.number(),
     };
-    let mut lent = Lent {
+    let lent = Lent {
         variables: variables.iter().map(variable).collect(),
         curves: Curve::numbers(curves).to_vec(),
         functions: functions.to_vec(),
@@ -22,9 +22,9 @@ fn board(variables: &[(u8, u8)], curves: &[Curve], functions: &[u8]) -> Lent {
         },
         values: Vec::new(),
         blocks: Vec::new(),
+        sums: Vec::new(),
     };
-    lent.refit();
-    lent
+    lent.fresh()
 }
 
 const OK: [u8; 3] = [0xE0, 0x00, 0x00];

@@ -8,7 +8,7 @@ use crate::whatif::call::Call;
 use crate::whatif::changes::changes;
 use crate::whatif::ended::Came;
 use crate::whatif::rule_of;
-use crate::whatif::things::{curve, curve_start, group, listed, value};
+use crate::whatif::things::{curve, group, listed, value};
 
 /// What an act came to.
 #[derive(Debug)]
@@ -124,7 +124,9 @@ fn number(lent: &Lent, number: usize, node: Node) -> Option<i128> {
 
 fn block_line(lent: &Lent, number: usize, block: usize) -> Option<String> {
     let size = curve(lent, number)?.size;
-    let start = curve_start(lent, number).checked_add(block.checked_mul(size)?)?;
-    let bytes = lent.blocks.get(start..start.checked_add(size)?)?;
+    let start = block.checked_mul(size)?;
+    let bytes = lent
+        .curve_bytes(number)
+        .get(start..start.checked_add(size)?)?;
     Some(format!("block {} {} {}", number, block, hex(bytes)))
 }

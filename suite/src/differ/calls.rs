@@ -28,6 +28,7 @@ pub enum Entry {
     Store {
         variable: usize,
     },
+    Fresh,
     ReadSigned {
         variable: usize,
     },
@@ -52,6 +53,12 @@ pub(super) fn draw(random: &mut Random, second: &SecondLent) -> Call {
         1..=3 => draw_result(random, second),
         4 | 5 => draw_store(random, second),
         6..=8 => draw_number(random, second),
+        // Seldom, as it leaves no sum stale.
+        9 if random.once_in(8) => Call {
+            entry: Entry::Fresh,
+            given: Vec::new(),
+            room: second.buffer.len(),
+        },
         _ => draw_packet(random, second),
     }
 }

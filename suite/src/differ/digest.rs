@@ -55,6 +55,7 @@ impl Digest {
         self.bytes(&proved.buffer);
         self.bytes(&proved.values);
         self.bytes(&proved.blocks);
+        self.bytes(&proved.sums);
         self.number(proved.groups[0].count);
         proved.groups[0]
             .sets

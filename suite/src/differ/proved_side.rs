@@ -31,6 +31,7 @@ pub(super) struct Proved {
     address: Address,
     pub(super) values: Guarded<u8>,
     pub(super) blocks: Guarded<u8>,
+    pub(super) sums: Guarded<u8>,
     pub(super) given: Guarded<u8>,
     pub(super) buffer: Guarded<u8>,
 }
@@ -51,6 +52,7 @@ impl Proved {
             },
             values: Guarded::new(MOST_LENT),
             blocks: Guarded::new(MOST_LENT),
+            sums: Guarded::new(MOST_LENT),
             given: Guarded::new(MOST_LENT),
             buffer: Guarded::new(MOST_LENT),
         }
@@ -65,6 +67,7 @@ impl Proved {
         self.address = lent.address;
         self.values.put(edge, &lent.values);
         self.blocks.put(edge, &lent.blocks);
+        self.sums.put(edge, &lent.sums);
         self.buffer.put(edge, &[]);
     }
 
@@ -74,6 +77,7 @@ impl Proved {
             Entry::Packet { busy, .. } => self.packet(busy),
             Entry::Result { function, due, ran } => self.result(function, due, ran),
             Entry::Store { variable } => self.store(variable),
+            Entry::Fresh => self.fresh(),
             Entry::ReadSigned { variable } => Ending::of_result(
                 cruachvel::read_signed(variables, VariableNumber(variable), &self.given),
                 Ending::Signed,
@@ -111,6 +115,7 @@ impl Proved {
             busy,
             &mut self.values,
             &mut self.blocks,
+            &mut self.sums,
             &self.given,
             &mut self.buffer,
         );
@@ -127,6 +132,7 @@ impl Proved {
             &self.groups[0],
             &self.values,
             &self.blocks,
+            &self.sums,
             FunctionNumber(function),
             due,
             ran,
@@ -141,10 +147,22 @@ impl Proved {
             &self.groups[0],
             &mut self.values,
             &self.blocks,
+            &self.sums,
             VariableNumber(variable),
             &self.given,
         );
         Ending::of_result(stored, |()| Ending::Done)
+    }
+
+    fn fresh(&mut self) -> Ending {
+        let fresh = cruachvel::fresh_board(
+            &self.records.table(),
+            &self.groups[0],
+            &self.values,
+            &self.blocks,
+            &mut self.sums,
+        );
+        Ending::of_result(fresh, |()| Ending::Done)
     }
 }
 
@@ -166,6 +184,7 @@ impl Proved {
             ("the group table", self.groups[0] == second.groups()),
             ("the variables' store", self.values[..] == second.values[..]),
             ("the curves' store", self.blocks[..] == second.blocks[..]),
+            ("the curves' sums", self.sums[..] == second.sums[..]),
             ("the bytes given", self.given[..] == call.given[..]),
         ]
         .iter()

@@ -13,6 +13,7 @@ pub(super) fn call(second: &mut SecondLent, entry: &Entry, given: &[u8]) -> Endi
         Entry::Store { variable } => {
             Ending::of_second_result(second.board_store(variable, given), |()| Ending::Done)
         }
+        Entry::Fresh => Ending::of_second_result(second.fresh_board(), |()| Ending::Done),
         Entry::ReadSigned { variable } => Ending::of_second_result(
             second::read_signed(&second.variables, variable, given),
             Ending::Signed,

@@ -1,7 +1,9 @@
 //! What was met on the way.
 use super::calls::{Call, Entry};
+use super::sums::Sums;
 use super::Ending;
 use crate::packets::{Wrong, COMMANDS};
+use crate::second_lent::SecondLent;
 
 /// Counts of what was met.
 pub struct Tally {
@@ -15,6 +17,7 @@ pub struct Tally {
     silences: u64,
     /// How often 28 was answered with E8: for the variable written, and for the one read alone.
     busy_halves: [u64; 2],
+    sums: Sums,
     /// The drafts that were sent: by command, then by the first thing wrong in it, then by the second.
     drafts: Vec<u64>,
 }
@@ -36,12 +39,16 @@ impl Tally {
             runs: [0; 2],
             silences: 0,
             busy_halves: [0; 2],
+            sums: Sums::default(),
             drafts: vec![0; 256 * WAYS * WAYS],
         }
     }
 
-    pub(super) fn note(&mut self, call: &Call, ending: &Ending, buffer: &[u8]) {
+    /// A call that both nodes ended so, with the sums as they were before it and all else as it left it.
+    pub(super) fn note(&mut self, call: &Call, ending: &Ending, sums: &[u8], after: &SecondLent) {
+        let buffer = &after.buffer;
         self.calls += 1;
+        self.sums.note(call, ending, sums, after);
         match *ending {
             Ending::Refused(number) => self.refusals[usize::from(number)] += 1,
             Ending::Run { due, .. } => self.runs[usize::from(due)] += 1,
@@ -86,6 +93,20 @@ impl Tally {
         )
     }
 
+    /// How often sums were read, renewed and worked out, and what else 0A and 42 got.
+    pub fn sums(&self) -> String {
+        let answered = |answer: u8| [0x0A, 0x42].map(|request| self.answered(request, answer));
+        let ([e5, renewal_e5], [e3, renewal_e3]) = (answered(0xE5), answered(0xE3));
+        format!(
+            "{}; E5 answered to 0A {} times, to 42 {} times, E3 to 0A {} times, to 42 {} times",
+            self.sums.text(),
+            e5,
+            renewal_e5,
+            e3,
+            renewal_e3
+        )
+    }
+
     /// What never came up: a comparison says something only of what did.
     pub fn not_met(&self) -> Vec<String> {
         let mut missing: Vec<String> = (1..=12)
@@ -103,6 +124,7 @@ impl Tally {
                 "28 with E8 for the variable written, and for the one read alone".to_string(),
             );
         }
+        missing.extend(self.sums.not_met());
         for command in COMMANDS {
             missing.extend(self.answers_not_met(command));
             missing.extend(self.drafts_not_met(command));
@@ -112,7 +134,7 @@ impl Tally {
 
     fn answers_not_met(&self, command: u8) -> Vec<String> {
         let good = match command {
-            0x00 | 0x02 | 0x04 | 0x06 | 0x08 | 0x0C | 0x10 | 0x12 | 0x40 => Some(command + 1),
+            0x00..=0x0C | 0x10 | 0x12 | 0x40 => Some(command + 1),
             0x28 => Some(0x11),
             0x50 => None,
             _ => Some(0xE0),

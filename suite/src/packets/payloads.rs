@@ -8,7 +8,7 @@ impl Drawer<'_> {
     // The payload, and the variables that the message reads or writes.
     pub(super) fn payload(&mut self, command: u8, wrongs: &[Wrong]) -> (Vec<u8>, u64) {
         match command {
-            0x06 => (vec![self.named(command, wrongs).0], 0),
+            0x06 | 0x0A | 0x42 => (vec![self.named(command, wrongs).0], 0),
             0x10 | 0x12 => {
                 let (number, thing) = self.named(command, wrongs);
                 (vec![number], thing.set)

@@ -6,7 +6,7 @@ impl Drawer<'_> {
     pub(super) fn spoil_front(&mut self, command: u8, payload: &mut Vec<u8>) {
         let (least, fixed) = match command {
             0x00 | 0x02 | 0x04 | 0x08 | 0x0C | 0x32 => (0, true),
-            0x06 | 0x10 | 0x12 => (1, true),
+            0x06 | 0x0A | 0x10 | 0x12 | 0x42 => (1, true),
             0x40 => (3, true),
             0x24 | 0x26 | 0x28 => (2, false),
             0x41 => (3, false),
@@ -26,7 +26,7 @@ impl Drawer<'_> {
     pub(super) fn unknown_command(&mut self) -> u8 {
         let near = self
             .random
-            .choose(&[0x01, 0x0A, 0x42, 0x51, 0x53, 0xE0, 0x7F]);
+            .choose(&[0x01, 0x0B, 0x43, 0x51, 0x53, 0xE0, 0x7F]);
         let any = self.random.byte();
         let code = self.random.choose(&[near, any]);
         if COMMANDS.contains(&code) {

@@ -24,7 +24,7 @@ impl Drawer<'_> {
         let mut order = (start..things.len()).chain(0..start);
         let number = order
             .find(|number| things[*number].writable == wanted)
-            .filter(|_| !matches!(command, 0x06 | 0x10 | 0x12 | 0x40))
+            .filter(|_| !matches!(command, 0x06 | 0x0A | 0x10 | 0x12 | 0x40 | 0x42))
             .unwrap_or(start);
         let set = things.get(number).map_or(0, |thing| thing.set);
         let bytes = self.bytes(command, number, set);
@@ -53,7 +53,7 @@ impl Drawer<'_> {
     fn things(&self, command: u8) -> Vec<Thing> {
         match command {
             0x06 | 0x12 | 0x22 | 0x26 => self.groups(),
-            0x40 | 0x41 => self.curves(),
+            0x0A | 0x40..=0x42 => self.curves(),
             0x50 => self.functions(),
             _ => self.variables(),
         }

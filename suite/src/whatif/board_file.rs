@@ -1,7 +1,7 @@
 //! A board described in a text file; docs/BOARD-FILE.md says how.
 use super::bytes::{bytes, counted};
 use super::call::variables;
-use super::things::{curve_start, is_signed, Setting};
+use super::things::{is_signed, Setting};
 use crate::lent::Lent;
 use cruachvel::{Address, Groups, Kind, Refusal, Variable, VariableNumber};
 use std::fmt;
@@ -126,6 +126,7 @@ impl Draft {
             },
             values: Vec::new(),
             blocks: Vec::new(),
+            sums: Vec::new(),
         };
         Draft {
             setting: Setting { lent, busy: 0 },
@@ -259,16 +260,16 @@ impl Draft {
 
 // The first bytes of a curve, as far as the store has it: where the curves are too long for the node, it is shorter.
 fn put_curve(lent: &mut Lent, number: usize, bytes: &[u8]) -> Result<(), String> {
-    let (start, end) = (curve_start(lent, number), curve_start(lent, number + 1));
-    if bytes.len() > end - start {
-        let has = counted(end - start, "byte");
+    let place = lent.curve_place(number);
+    if bytes.len() > place.len() {
+        let has = counted(place.len(), "byte");
         return Err(format!(
             "the curve has {}, and {} are given",
             has,
             bytes.len()
         ));
     }
-    let places = lent.blocks.iter_mut().skip(start);
+    let places = lent.blocks.iter_mut().skip(place.start);
     places.zip(bytes).for_each(|(place, byte)| *place = *byte);
     Ok(())
 }

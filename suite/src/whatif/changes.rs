@@ -1,6 +1,6 @@
 //! What a call changed in values, curves and groups.
 use super::bytes::shown;
-use super::things::{curve, curve_start, number, set_text, value};
+use super::things::{curve, number, set_text, value};
 use crate::lent::Lent;
 use cruachvel::Groups;
 use std::ops::Range;
@@ -40,9 +40,8 @@ fn blocks(before: &Lent, after: &Lent) -> Vec<String> {
     let mut lines = Vec::new();
     for number in 0..before.curves.len() / 3 {
         let size = curve(before, number).map_or(1, |curve| curve.size.max(1));
-        let (start, end) = (curve_start(before, number), curve_start(before, number + 1));
-        let old = before.blocks.get(start..end).unwrap_or(&[]).chunks(size);
-        let new = after.blocks.get(start..end).unwrap_or(&[]).chunks(size);
+        let old = before.curve_bytes(number).chunks(size);
+        let new = after.curve_bytes(number).chunks(size);
         for (block, (old, new)) in old
             .zip(new)
             .enumerate()

@@ -2,9 +2,7 @@
 use super::bytes::{counted, grouped};
 use super::things::{curve, listed};
 use crate::lent::{all_declared, members, values_length, Lent};
-use cruachvel::{
-    Kind, Variable, MOST_BLOCKS, MOST_CURVE_BYTES, MOST_VALUE_BYTES, MOST_VARIABLES,
-};
+use cruachvel::{Kind, Variable, MOST_BLOCKS, MOST_CURVE_BYTES, MOST_VALUE_BYTES, MOST_VARIABLES};
 
 /// The first thing that breaks the table, if something does.
 pub fn broken(lent: &Lent) -> Option<String> {
@@ -100,7 +98,7 @@ fn curve_fault(lent: &Lent, number: usize) -> Option<String> {
 }
 
 fn blocks_length(lent: &Lent) -> usize {
-    super::things::curve_start(lent, lent.curves.len() / 3)
+    lent.curve_place(lent.curves.len() / 3).start
 }
 
 fn functions(functions: &[u8]) -> Option<String> {

@@ -25,14 +25,6 @@ pub struct Curve {
     pub blocks: usize,
 }
 
-/// Where a curve's blocks start in the store.
-pub fn curve_start(lent: &Lent, number: usize) -> usize {
-    let before = (0..number).filter_map(|number| curve(lent, number));
-    before.fold(0, |sum: usize, curve| {
-        sum.saturating_add(curve.size.saturating_mul(curve.blocks))
-    })
-}
-
 pub fn group(lent: &Lent, number: usize) -> Option<Group> {
     let sets = lent.group_sets(&lent.groups);
     let set = *sets.get(number)?;

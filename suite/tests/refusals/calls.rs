@@ -13,13 +13,19 @@ pub enum Entry {
     Packet,
     FunctionResult,
     BoardStore,
+    FreshBoard,
     ReadSigned,
     ReadUnsigned,
     WriteSigned,
     WriteUnsigned,
 }
 
-pub const WHOLE_BOARD: [Entry; 3] = [Entry::Packet, Entry::FunctionResult, Entry::BoardStore];
+pub const WHOLE_BOARD: [Entry; 4] = [
+    Entry::Packet,
+    Entry::FunctionResult,
+    Entry::BoardStore,
+    Entry::FreshBoard,
+];
 pub const NUMBERS: [Entry; 4] = [
     Entry::ReadSigned,
     Entry::ReadUnsigned,
@@ -46,6 +52,7 @@ fn call(lent: &mut Lent, entry: Entry, buffer: &mut [u8]) -> Option<u8> {
         Entry::Packet => refused(lent.packet(0, &request, buffer)),
         Entry::FunctionResult => refused(lent.function_result(0, true, Ran::Gave(&[1, 2]), buffer)),
         Entry::BoardStore => number_of(lent.board_store(0, &[1, 2, 3, 4])),
+        Entry::FreshBoard => number_of(lent.fresh_board()),
         Entry::ReadSigned => number_of(read_signed(variables, signed, &[1, 2, 3, 4])),
         Entry::ReadUnsigned => number_of(read_unsigned(variables, unsigned, &[1, 2])),
         Entry::WriteSigned => number_of(write_signed(variables, signed, -3, &mut buffer[..4])),

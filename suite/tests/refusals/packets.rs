@@ -20,16 +20,9 @@ fn refusal_2_for_every_own_address_that_is_not_1_to_31() {
             "own address {}",
             own
         );
-        assert_eq!(
-            refusal(&lent, Entry::FunctionResult),
-            None,
-            "a function result has no address"
-        );
-        assert_eq!(
-            refusal(&lent, Entry::BoardStore),
-            None,
-            "a board store has no address"
-        );
+        for entry in [Entry::FunctionResult, Entry::BoardStore, Entry::FreshBoard] {
+            assert_eq!(refusal(&lent, entry), None, "{:?} has no address", entry);
+        }
     }
 }
 
