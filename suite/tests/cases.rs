@@ -60,6 +60,9 @@ reply 00 E0 00 00 20
 group 3 0 2
 group 4 none
 block 0 1 00 00 00 00
+fresh
+done
+sum 0 7D EA 36 2B 3F AC 8E 00 95 6A 49 52 A3 D4 F4 74
 says The long road";
 
 fn wrong(text: &str) -> Vec<String> {
@@ -106,8 +109,8 @@ const CHANGES: &[(&str, &str, &str)] = &[
         "line 10: it says \"step 8\", and it is \"step 9\"",
     ),
     (
-        "done",
-        "refused 9",
+        "done\nreads",
+        "refused 9\nreads",
         "line 13: it says \"refused 9\", and it is \"done\"",
     ),
     (
@@ -139,6 +142,16 @@ const CHANGES: &[(&str, &str, &str)] = &[
         "1 00 00 00 00",
         "1 00 00 00 01",
         "line 23: it says \"block 0 1 00 00 00 01\", and it is \"block 0 1 00 00 00 00\"",
+    ),
+    (
+        "sum 0 7D",
+        "sum 0 7E",
+        "line 26: it says \"sum 0 7E EA 36 2B 3F AC 8E 00 95 6A 49 52 A3 D4 F4 74\", and it is \"sum 0 7D EA 36 2B 3F AC 8E 00 95 6A 49 52 A3 D4 F4 74\"",
+    ),
+    (
+        "sum 0 7D",
+        "sum 1 7D",
+        "line 26: \"sum 1 7D EA 36 2B 3F AC 8E 00 95 6A 49 52 A3 D4 F4 74\" can't be found out",
     ),
 ];
 
@@ -273,7 +286,7 @@ fn a_sentence_that_01_does_not_have_is_found() {
     let document = document.replace("long  road", "short road");
     assert_eq!(
         misquoted(&cases, &document),
-        ["line 24: 01 doesn't say: The long road"]
+        ["line 27: 01 doesn't say: The long road"]
     );
     let step = "E2: command not above.";
     let document = whatif.replace(step, "");

@@ -32,7 +32,15 @@ pub struct Act {
 const OUTCOMES: [&str; 7] = [
     "reply", "silence", "run", "refused", "done", "number", "bytes",
 ];
-const STATES: [&str; 6] = ["step", "unchanged", "variable", "reads", "block", "group"];
+const STATES: [&str; 7] = [
+    "step",
+    "unchanged",
+    "variable",
+    "reads",
+    "block",
+    "sum",
+    "group",
+];
 
 /// The questions of a file, or the line and what is wrong with it.
 pub fn parse(text: &str) -> Result<Vec<Case>, String> {

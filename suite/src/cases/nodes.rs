@@ -44,33 +44,44 @@ fn second_call(lends: &mut SecondLent, busy: u64, call: &Call) -> Came {
             let stored = lends.board_store(*variable, bytes);
             Came::of(stored.map_err(refusal), |()| Came::Done)
         }
+        Call::Fresh => Came::of(lends.fresh_board().map_err(refusal), |()| Came::Fresh),
         Call::Read {
             signed,
             variable,
             bytes,
-        } => {
-            let read = if *signed {
-                second::read_signed(&lends.variables, *variable, bytes).map(i128::from)
-            } else {
-                second::read_unsigned(&lends.variables, *variable, bytes).map(i128::from)
-            };
-            Came::of(read.map_err(refusal), Came::Number)
-        }
+        } => second_read(lends, *signed, *variable, bytes),
         Call::Write {
             signed,
             variable,
             number,
             room,
-        } => {
-            let mut buffer = vec![FILLING; *room];
-            let written = if *signed {
-                second::write_signed(&lends.variables, *variable, *number as i64, &mut buffer)
-            } else {
-                second::write_unsigned(&lends.variables, *variable, *number as u64, &mut buffer)
-            };
-            Came::of(written.map_err(refusal), |()| Came::Bytes(buffer.clone()))
-        }
+        } => second_write(lends, *signed, *variable, *number, *room),
     }
+}
+
+fn second_read(lends: &SecondLent, signed: bool, variable: usize, bytes: &[u8]) -> Came {
+    let read = if signed {
+        second::read_signed(&lends.variables, variable, bytes).map(i128::from)
+    } else {
+        second::read_unsigned(&lends.variables, variable, bytes).map(i128::from)
+    };
+    Came::of(read.map_err(refusal), Came::Number)
+}
+
+fn second_write(
+    lends: &SecondLent,
+    signed: bool,
+    variable: usize,
+    number: i128,
+    room: usize,
+) -> Came {
+    let mut buffer = vec![FILLING; room];
+    let written = if signed {
+        second::write_signed(&lends.variables, variable, number as i64, &mut buffer)
+    } else {
+        second::write_unsigned(&lends.variables, variable, number as u64, &mut buffer)
+    };
+    Came::of(written.map_err(refusal), |()| Came::Bytes(buffer.clone()))
 }
 
 fn refusal(number: u8) -> Refusal {

@@ -94,7 +94,10 @@ fn board_line(case: &Case) -> String {
 }
 
 fn call_text(act: &Act) -> String {
-    let call = format!("{} `{}`", act.call.words().0, act.text);
+    let call = match (act.call.words().0, act.text.as_str()) {
+        (keyword, "") => keyword.to_string(),
+        (keyword, text) => format!("{} `{}`", keyword, text),
+    };
     match act.busy.unwrap_or(0) {
         0 => call,
         busy => format!("{} while {}", call, busy_text(busy)),

@@ -90,6 +90,7 @@ fn state_line(said: &str, ran: &Ran, after: &Lent, node: Node) -> Option<String>
         }
         "block" => return block_line(after, place(1)?, place(2)?),
         "variable" => hex(variable(after, place(1)?)?),
+        "sum" => hex(sum(after, place(1)?)?),
         "reads" => number(after, place(1)?, node)?.to_string(),
         _ => return None,
     };
@@ -103,6 +104,11 @@ fn state_line(said: &str, ran: &Ran, after: &Lent, node: Node) -> Option<String>
 fn variable(lent: &Lent, number: usize) -> Option<&[u8]> {
     lent.variables.get(number)?;
     Some(value(lent, number))
+}
+
+fn sum(lent: &Lent, number: usize) -> Option<&[u8]> {
+    curve(lent, number)?;
+    Some(lent.sum(number))
 }
 
 // The number that a variable's bytes mean to this node.

@@ -5,6 +5,7 @@ use super::Boards;
 use crate::lent::Lent;
 use crate::whatif::call::Call;
 use crate::whatif::ended::{Came, Ended};
+use cruachvel::REPLY_ROOM;
 use std::fmt::Display;
 
 /// The table, or why there is none. Whether the cases hold is for others to see.
@@ -69,6 +70,7 @@ fn board(text: &mut String, line: usize, lent: &Lent) -> String {
     let functions = array(text, "uint8_t", &name("functions"), &lent.functions);
     let values = store(text, &name("values"), &lent.values);
     let blocks = store(text, &name("blocks"), &lent.blocks);
+    let sums = store(text, &name("sums"), &lent.sums);
     let sets: Vec<String> = lent
         .groups
         .sets
@@ -76,12 +78,13 @@ fn board(text: &mut String, line: usize, lent: &Lent) -> String {
         .map(|set| format!("UINT64_C({})", set))
         .collect();
     format!(
-        "{}, {}, {}, {}, {}, {{{}, {{{}}}}}, {}, {}",
+        "{}, {}, {}, {}, {}, {}, {{{}, {{{}}}}}, {}, {}",
         variables,
         curves,
         functions,
         values,
         blocks,
+        sums,
         lent.groups.count,
         sets.join(", "),
         lent.address.own,
@@ -89,63 +92,87 @@ fn board(text: &mut String, line: usize, lent: &Lent) -> String {
     )
 }
 
-// The entry, the variable or function, due, failed, the number to be written, the bytes given, and the buffer's length.
-fn call(text: &mut String, act: &Act) -> String {
-    let given = |text: &mut String, bytes: &[u8]| {
-        array(text, "uint8_t", &format!("given_{}", act.line), bytes)
-    };
-    match &act.call {
-        Call::Packet(bytes) => {
-            let given = given(text, bytes);
-            format!("PACKET, 0, false, false, 0, {}, BSMP_REPLY_ROOM", given)
-        }
-        Call::Store(variable, bytes) => {
-            let given = given(text, bytes);
-            format!("STORE, {}, false, false, 0, {}, 0", variable, given)
-        }
-        Call::Read {
-            signed,
-            variable,
-            bytes,
-        } => {
-            let entry = if *signed {
-                "READ_SIGNED"
-            } else {
-                "READ_UNSIGNED"
-            };
-            let given = given(text, bytes);
-            format!("{}, {}, false, false, 0, {}, 0", entry, variable, given)
-        }
-        Call::Write {
-            signed,
-            variable,
-            number,
-            room,
-        } => {
-            let entry = if *signed {
-                "WRITE_SIGNED"
-            } else {
-                "WRITE_UNSIGNED"
-            };
-            let number = *number as u64;
-            format!(
-                "{}, {}, false, false, UINT64_C({}), NULL, 0, {}",
-                entry, variable, number, room
-            )
-        }
-        Call::Result {
-            function,
-            due,
-            failed,
-            bytes,
-        } => {
-            let given = given(text, bytes);
-            format!(
-                "RESULT, {}, {}, {}, 0, {}, BSMP_REPLY_ROOM",
-                function, due, failed, given
-            )
+// A call as the table has it: what the entry has no use for is 0, false or empty.
+struct Row<'a> {
+    entry: &'static str,
+    thing: usize,
+    due: bool,
+    failed: bool,
+    number: u64,
+    given: &'a [u8],
+    room: usize,
+}
+
+impl<'a> Row<'a> {
+    fn new(entry: &'static str, thing: usize, given: &'a [u8]) -> Row<'a> {
+        Row {
+            entry,
+            thing,
+            due: false,
+            failed: false,
+            number: 0,
+            given,
+            room: 0,
         }
     }
+
+    fn of(call: &'a Call) -> Row<'a> {
+        match call {
+            Call::Packet(bytes) => Row {
+                room: REPLY_ROOM,
+                ..Row::new("PACKET", 0, bytes)
+            },
+            Call::Store(variable, bytes) => Row::new("STORE", *variable, bytes),
+            Call::Fresh => Row::new("FRESH", 0, &[]),
+            Call::Read {
+                signed: true,
+                variable,
+                bytes,
+            } => Row::new("READ_SIGNED", *variable, bytes),
+            Call::Read {
+                variable, bytes, ..
+            } => Row::new("READ_UNSIGNED", *variable, bytes),
+            Call::Write {
+                signed,
+                variable,
+                number,
+                room,
+            } => Row::of_write(*signed, *variable, *number as u64, *room),
+            Call::Result {
+                function,
+                due,
+                failed,
+                bytes,
+            } => Row {
+                due: *due,
+                failed: *failed,
+                room: REPLY_ROOM,
+                ..Row::new("RESULT", *function, bytes)
+            },
+        }
+    }
+
+    fn of_write(signed: bool, variable: usize, number: u64, room: usize) -> Row<'a> {
+        let entry = if signed {
+            "WRITE_SIGNED"
+        } else {
+            "WRITE_UNSIGNED"
+        };
+        Row {
+            number,
+            room,
+            ..Row::new(entry, variable, &[])
+        }
+    }
+}
+
+fn call(text: &mut String, act: &Act) -> String {
+    let row = Row::of(&act.call);
+    let given = array(text, "uint8_t", &format!("given_{}", act.line), row.given);
+    format!(
+        "{}, {}, {}, {}, UINT64_C({}), {}, {}",
+        row.entry, row.thing, row.due, row.failed, row.number, given, row.room
+    )
 }
 
 // How the call ended, the refusal, the function, due, the number, and the bytes: of a reply, of a function's input, or of a number.
@@ -170,7 +197,7 @@ fn came_to(text: &mut String, act: &Act, came: &Came) -> String {
         Came::Ended(Ended::Refused(refusal)) => {
             format!("REFUSED, {}, 0, false, 0, NULL, 0", refusal.number())
         }
-        Came::Done => "DONE, 0, 0, false, 0, NULL, 0".to_string(),
+        Came::Done | Came::Fresh => "DONE, 0, 0, false, 0, NULL, 0".to_string(),
         Came::Number(number) => {
             format!("DONE, 0, 0, false, UINT64_C({}), NULL, 0", *number as u64)
         }
@@ -183,7 +210,7 @@ fn came_to(text: &mut String, act: &Act, came: &Came) -> String {
     }
 }
 
-// FNV-1a over the stores and the group table's numbers, least significant byte first; ctest/cases.c has the same.
+// FNV-1a over the stores, the sums and the group table's numbers, least significant byte first; ctest/cases.c has the same.
 fn digest(lent: &Lent) -> u64 {
     let groups = [&[lent.groups.count], &lent.groups.sets[..]].concat();
     let groups = groups.iter().flat_map(|number| number.to_le_bytes());
@@ -191,6 +218,7 @@ fn digest(lent: &Lent) -> u64 {
         .values
         .iter()
         .chain(&lent.blocks)
+        .chain(&lent.sums)
         .copied()
         .chain(groups);
     bytes.fold(0xCBF2_9CE4_8422_2325, |digest, byte| {

@@ -1,9 +1,9 @@
 //! A board described in a text file; docs/BOARD-FILE.md says how.
 use super::bytes::{bytes, counted};
 use super::call::variables;
-use super::things::{is_signed, Setting};
+use super::things::{is_signed, missing, Setting};
 use crate::lent::Lent;
-use cruachvel::{Address, Groups, Kind, Refusal, Variable, VariableNumber};
+use cruachvel::{Address, Groups, Kind, Refusal, Variable, VariableNumber, SUM_SIZE};
 use std::fmt;
 use std::path::Path;
 use std::str::FromStr;
@@ -100,7 +100,7 @@ impl<'a> Words<'a> {
     }
 }
 
-const ONCE: [&str; 5] = ["address", "multicast", "busy", "values", "blocks"];
+const ONCE: [&str; 6] = ["address", "multicast", "busy", "values", "blocks", "sums"];
 
 // A board in the making.
 struct Draft {
@@ -109,8 +109,11 @@ struct Draft {
     once: Vec<&'static str>,
     // Bytes for a curve's first blocks: the line, the curve and the bytes.
     curve_bytes: Vec<(usize, usize, Vec<u8>)>,
+    // Likewise a curve's sum.
+    curve_sums: Vec<(usize, usize, Vec<u8>)>,
     whole_values: Option<Vec<u8>>,
     whole_blocks: Option<Vec<u8>>,
+    whole_sums: Option<Vec<u8>>,
 }
 
 impl Draft {
@@ -132,8 +135,10 @@ impl Draft {
             setting: Setting { lent, busy: 0 },
             once: Vec::new(),
             curve_bytes: Vec::new(),
+            curve_sums: Vec::new(),
             whole_values: None,
             whole_blocks: None,
+            whole_sums: None,
         }
     }
 
@@ -148,12 +153,14 @@ impl Draft {
             "multicast" => self.multicast(words)?,
             "variable" => self.variable(words)?,
             "curve" => self.curve(words, line)?,
+            "sum" => self.sum(words, line)?,
             "function" => self.function(words)?,
             "group" => self.group(words)?,
             "busy" => self.setting.busy = words.set()?,
             "values" => self.whole_values = Some(words.bytes()?),
             "blocks" => self.whole_blocks = Some(words.bytes()?),
-            _ => return Err(format!("{:?} is none of address, multicast, variable, curve, function, group, busy, values and blocks", name)),
+            "sums" => self.whole_sums = Some(words.bytes()?),
+            _ => return Err(format!("{:?} is none of address, multicast, variable, curve, sum, function, group, busy, values, blocks and sums", name)),
         }
         words.end()
     }
@@ -217,6 +224,23 @@ impl Draft {
         Ok(())
     }
 
+    fn sum(&mut self, words: &mut Words, line: usize) -> Result<(), String> {
+        let number = words.number("the curve", u32::MAX)?;
+        let bytes = words.bytes()?;
+        if bytes.len() != SUM_SIZE {
+            let given = bytes.len();
+            return Err(format!(
+                "a sum has {} bytes, and {} are given",
+                SUM_SIZE, given
+            ));
+        }
+        if self.curve_sums.iter().any(|(_, given, _)| *given == number) {
+            return Err(format!("curve {} has one line with its sum", number));
+        }
+        self.curve_sums.push((line, number, bytes));
+        Ok(())
+    }
+
     fn function(&mut self, words: &mut Words) -> Result<(), String> {
         let input: u8 = words.number("the input", 255)?;
         let output: u8 = words.number("the output", 255)?;
@@ -254,6 +278,15 @@ impl Draft {
         if let Some(blocks) = self.whole_blocks {
             lent.blocks = blocks;
         }
+        // Where the node refuses the board, they stay zeros, and no call shows them.
+        let _ = lent.fresh_board();
+        for (line, number, sum) in self.curve_sums {
+            let told = put_sum(lent, number, &sum);
+            told.map_err(|message| Mistake { line, message })?;
+        }
+        if let Some(sums) = self.whole_sums {
+            lent.sums = sums;
+        }
         Ok(setting)
     }
 }
@@ -271,6 +304,15 @@ fn put_curve(lent: &mut Lent, number: usize, bytes: &[u8]) -> Result<(), String>
     }
     let places = lent.blocks.iter_mut().skip(place.start);
     places.zip(bytes).for_each(|(place, byte)| *place = *byte);
+    Ok(())
+}
+
+fn put_sum(lent: &mut Lent, number: usize, sum: &[u8]) -> Result<(), String> {
+    if let Some(message) = missing("curve", number, lent.curves.len() / 3) {
+        return Err(message);
+    }
+    let start = number * SUM_SIZE;
+    lent.sums[start..start + SUM_SIZE].copy_from_slice(sum);
     Ok(())
 }
 

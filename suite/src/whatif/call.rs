@@ -25,6 +25,7 @@ pub enum Call {
         failed: bool,
         bytes: Vec<u8>,
     },
+    Fresh,
 }
 
 /// A line that does something: a call, or the variables that are busy from then on.
@@ -40,7 +41,7 @@ impl Line {
         let words: Vec<&str> = rest.split_whitespace().collect();
         match keyword {
             "busy" => Ok(Some(Line::Busy(variables(rest)?))),
-            "packet" | "store" | "read" | "write" | "result" => {
+            "packet" | "store" | "read" | "write" | "result" | "fresh" => {
                 Ok(Some(Line::Call(call(keyword, &words)?)))
             }
             _ => Ok(None),
@@ -57,7 +58,7 @@ impl Line {
                 Ok(Line::Call(Call::Packet(bytes(text)?)))
             }
             None => Err(format!(
-                "{:?} is neither bytes in hex nor packet, store, read, write, result or busy",
+                "{:?} is neither bytes in hex nor packet, store, read, write, result, fresh or busy",
                 keyword
             )),
         }
@@ -98,6 +99,7 @@ impl Call {
                 let rest = format!("{} {} {} {}", function, due, ran, hex(bytes));
                 ("result", rest)
             }
+            Call::Fresh => ("fresh", String::new()),
         }
     }
 }
@@ -150,6 +152,7 @@ fn call(keyword: &str, words: &[&str]) -> Result<Call, String> {
         ("result", [function, due @ ("due" | "quiet"), ran @ ("gave" | "failed"), words @ ..]) => {
             result(function, *due == "due", *ran == "failed", joined(words)?)
         }
+        ("fresh", []) => Ok(Call::Fresh),
         _ => Err(format!("a {} is written so: {}", keyword, form(keyword))),
     }
 }

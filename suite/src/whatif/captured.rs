@@ -1,6 +1,6 @@
 //! A reply that was captured, without its request: decoded as far as the board tells.
 use super::bytes::{checksum, counted};
-use super::commands::{known_reply, COMMANDS};
+use super::commands::{known_reply, Command, COMMANDS};
 use super::packet::Packet;
 use super::reply;
 use super::rule::RESULT;
@@ -24,12 +24,12 @@ pub fn captured(bytes: &[u8], setting: &Setting) -> Sheet {
 // What gets a reply with this code.
 fn answers(code: u8) -> Vec<String> {
     let steps = STEPS.iter().filter(|step| step.error == code);
-    let mut lines: Vec<String> = steps.map(|step| step.text()).collect();
+    let mut lines: Vec<String> = steps.map(|step| step.text(None)).collect();
     let start = format!("{:02X}", code);
     let rows = COMMANDS
         .iter()
         .filter(|command| command.answer.starts_with(&start));
-    lines.extend(rows.map(|command| format!("the command's row: {}", command.row())));
+    lines.extend(rows.map(Command::text));
     if lines.is_empty() {
         lines.push(format!("\"{}\"", RESULT));
     }

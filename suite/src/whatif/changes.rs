@@ -1,14 +1,15 @@
-//! What a call changed in values, curves and groups.
+//! What a call changed in values, curves, sums and groups.
 use super::bytes::shown;
 use super::things::{curve, number, set_text, value};
 use crate::lent::Lent;
 use cruachvel::Groups;
 use std::ops::Range;
 
-/// A line for each variable, block and group that is not what it was.
+/// A line for each variable, block, sum and group that is not what it was.
 pub fn changes(before: &Lent, after: &Lent) -> Vec<String> {
     let mut lines = values(before, after);
     lines.extend(blocks(before, after));
+    lines.extend(sums(before, after));
     lines.extend(groups(&before.groups, &after.groups));
     lines
 }
@@ -56,6 +57,16 @@ fn blocks(before: &Lent, after: &Lent) -> Vec<String> {
         }
     }
     lines
+}
+
+fn sums(before: &Lent, after: &Lent) -> Vec<String> {
+    let changed = |curve: &usize| before.sum(*curve) != after.sum(*curve);
+    let line = |curve: usize| {
+        let (old, new) = (shown(before.sum(curve)), shown(after.sum(curve)));
+        format!("sum of curve {}: {} -> {}", curve, old, new)
+    };
+    let curves = 0..before.curves.len() / 3;
+    curves.filter(changed).map(line).collect()
 }
 
 // The part from the first byte that differs to the last.

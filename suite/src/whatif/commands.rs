@@ -1,4 +1,5 @@
-//! 01's table of commands: what each is called, what its payload is made of, and what it is answered with.
+//! 01's table of commands, with those that a change request adds: what each is called, what its payload is made of, and what it is
+//! answered with.
 
 /// What stands at the front of a payload. A block number has two bytes, all else one.
 #[derive(Clone, Copy, Debug, PartialEq, Eq)]
@@ -33,7 +34,21 @@ pub enum Rest {
     Input,
 }
 
-/// A row of 01's table: request, payload and answer in 01's words, with 001's name of the command.
+/// Words of a change request, which amends 01.
+#[derive(Debug, PartialEq, Eq)]
+pub struct Amended {
+    pub request: &'static str,
+    pub words: &'static str,
+}
+
+impl Amended {
+    pub fn text(&self) -> String {
+        format!("by {} \"{}\"", self.request, self.words)
+    }
+}
+
+/// A row of 01's table: request, payload and answer in 01's words, with 001's name of the command. In place of a row, a command may have
+/// the words of the change request that adds it.
 #[derive(Debug)]
 pub struct Command {
     pub code: u8,
@@ -42,6 +57,7 @@ pub struct Command {
     pub answer: &'static str,
     pub front: &'static [Field],
     pub rest: Rest,
+    pub amended: Option<Amended>,
 }
 
 impl Command {
@@ -55,9 +71,20 @@ impl Command {
         front + usize::from(self.rest == Rest::Members)
     }
 
-    /// The row as it stands in 01.
-    pub fn row(&self) -> String {
-        format!("| {:02X} | {} | {} |", self.code, self.payload, self.answer)
+    /// The row as it stands in 01, or the words of the change request.
+    pub fn quote(&self) -> String {
+        match &self.amended {
+            Some(amended) => amended.words.to_string(),
+            None => format!("| {:02X} | {} | {} |", self.code, self.payload, self.answer),
+        }
+    }
+
+    /// The same, with where it stands.
+    pub fn text(&self) -> String {
+        match &self.amended {
+            Some(amended) => amended.text(),
+            None => format!("the command's row: {}", self.quote()),
+        }
     }
 }
 
@@ -75,6 +102,23 @@ const fn row(
         answer,
         front,
         rest,
+        amended: None,
+    }
+}
+
+// A command that 2026-02 adds: its payload is a curve.
+const fn of_sums(
+    code: u8,
+    name: &'static str,
+    answer: &'static str,
+    words: &'static str,
+) -> Command {
+    Command {
+        amended: Some(Amended {
+            request: "2026-02",
+            words,
+        }),
+        ..row(code, name, ("curve", answer), &[Curve], Nothing)
     }
 }
 
@@ -82,12 +126,13 @@ use Field::{Block, Curve, Function, Group, Operation, Variable, VariableRead};
 use Rest::{Data, Input, Mask, Members, Nothing, Value};
 
 #[rustfmt::skip]
-pub const COMMANDS: [Command; 18] = [
+pub const COMMANDS: [Command; 20] = [
     row(0x00, "query the protocol version", ("none", "01: 02 14 00"), &[], Nothing),
     row(0x02, "query the list of variables", ("none", "03: a byte per variable, top bit 1 if writable, low seven the size"), &[], Nothing),
     row(0x04, "query the list of groups", ("none", "05: a byte per group, top bit 1 if writable, low seven the member count"), &[], Nothing),
     row(0x06, "query a group", ("group", "07: its variables, ascending"), &[Group], Nothing),
     row(0x08, "query the list of curves", ("none", "09: per curve type (0, 1), block size in two bytes, blocks in two (65,536 as 0)"), &[], Nothing),
+    of_sums(0x0A, "query the checksum of a curve", "0B with 16 bytes", "0A (payload: curve; answer 0B with 16 bytes)"),
     row(0x0C, "query the list of functions", ("none", "0D: per function, input count in the high four bits, output in the low four"), &[], Nothing),
     row(0x10, "read a variable", ("variable", "11: value"), &[Variable], Nothing),
     row(0x12, "read a group", ("group", "13: members' values, ascending"), &[Group], Nothing),
@@ -100,12 +145,13 @@ pub const COMMANDS: [Command; 18] = [
     row(0x32, "remove all groups", ("none", "E0; groups 3 to 7 are gone, their numbers free again"), &[], Nothing),
     row(0x40, "request a curve block", ("curve, block in two bytes", "41: curve, block, the block's bytes"), &[Curve, Block], Nothing),
     row(0x41, "curve block", ("curve, block in two bytes, data", "E0"), &[Curve, Block], Data),
+    of_sums(0x42, "recalculate the checksum of a curve", "E0", "42 (payload: curve; answer E0)"),
     row(0x50, "execute a function", ("function, input", "the function is to be run"), &[Function], Input),
 ];
 
 /// What a reply's code is called.
 pub fn reply_name(code: u8) -> &'static str {
-    known_reply(code).unwrap_or("a code that 01 doesn't have")
+    known_reply(code).unwrap_or("a code that neither 01 nor a change request has")
 }
 
 /// The same, for those that 01 has.
@@ -116,6 +162,7 @@ pub fn known_reply(code: u8) -> Option<&'static str> {
         0x05 => "list of groups",
         0x07 => "group",
         0x09 => "list of curves",
+        0x0B => "checksum of a curve",
         0x0D => "list of functions",
         0x11 => "value of a variable",
         0x13 => "values of a group",

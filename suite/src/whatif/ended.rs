@@ -96,6 +96,7 @@ pub fn due_text(due: bool) -> &'static str {
 pub enum Came {
     Ended(Ended),
     Done,
+    Fresh,
     Number(i128),
     Bytes(Vec<u8>),
 }
@@ -120,6 +121,7 @@ impl Came {
         match self {
             Came::Ended(ended) => ended.text(),
             Came::Done => "the value is stored".to_string(),
+            Came::Fresh => "the sums are worked out".to_string(),
             Came::Number(number) => format!("the number {}", number),
             Came::Bytes(bytes) => format!("the bytes {}", shown(bytes)),
         }
@@ -129,7 +131,7 @@ impl Came {
     pub fn line(&self) -> String {
         let line = match self {
             Came::Ended(ended) => ended.line(),
-            Came::Done => "done".to_string(),
+            Came::Done | Came::Fresh => "done".to_string(),
             Came::Number(number) => format!("number {}", number),
             Came::Bytes(bytes) => format!("bytes {}", hex(bytes)),
         };
@@ -154,16 +156,14 @@ pub fn proved(lent: &mut Lent, busy: u64, call: &Call) -> Came {
             failed,
             bytes,
         } => {
-            let ran = match bytes.first() {
-                Some(error) if *failed => Ran::Failed(*error),
-                _ => Ran::Gave(bytes),
-            };
+            let ran = proved_ran(*failed, bytes);
             let ended = Ended::of(lent.function_result(*function, *due, ran, &mut reply));
             Came::sent(ended, &reply)
         }
         Call::Store(variable, bytes) => {
             Came::of(lent.board_store(*variable, bytes), |()| Came::Done)
         }
+        Call::Fresh => Came::of(lent.fresh_board(), |()| Came::Fresh),
         Call::Read {
             signed,
             variable,
@@ -177,16 +177,14 @@ pub fn proved(lent: &mut Lent, busy: u64, call: &Call) -> Came {
             variable,
             number,
             room,
-        } => {
-            let mut buffer = vec![FILLING; *room];
-            let variable = VariableNumber(*variable);
-            let written = if *signed {
-                cruachvel::write_signed(&lent.variables, variable, *number as i64, &mut buffer)
-            } else {
-                cruachvel::write_unsigned(&lent.variables, variable, *number as u64, &mut buffer)
-            };
-            Came::of(written, |()| Came::Bytes(buffer.clone()))
-        }
+        } => proved_write(lent, *signed, VariableNumber(*variable), *number, *room),
+    }
+}
+
+fn proved_ran(failed: bool, bytes: &[u8]) -> Ran<'_> {
+    match bytes.first() {
+        Some(error) if failed => Ran::Failed(*error),
+        _ => Ran::Gave(bytes),
     }
 }
 
@@ -201,6 +199,22 @@ fn proved_read(
     } else {
         cruachvel::read_unsigned(&lent.variables, variable, bytes).map(i128::from)
     }
+}
+
+fn proved_write(
+    lent: &Lent,
+    signed: bool,
+    variable: VariableNumber,
+    number: i128,
+    room: usize,
+) -> Came {
+    let mut buffer = vec![FILLING; room];
+    let written = if signed {
+        cruachvel::write_signed(&lent.variables, variable, number as i64, &mut buffer)
+    } else {
+        cruachvel::write_unsigned(&lent.variables, variable, number as u64, &mut buffer)
+    };
+    Came::of(written, |()| Came::Bytes(buffer.clone()))
 }
 
 impl Setting {

@@ -2,6 +2,7 @@
 use super::bytes::{checksum, summed};
 use super::call::{due_name, Call};
 use super::changes::changes;
+use super::commands::Field;
 use super::ended::{Came, Ended};
 use super::packet::Packet;
 use super::sheet::Sheet;
@@ -20,7 +21,7 @@ pub fn explain(setting: &mut Setting, call: &Call) -> Sheet {
     sheet.word("ended", came.line());
     sheet.number("step", rule.step());
     sheet.list("rule", rule.lines());
-    if let Some(hint) = hint(&came, call, &before) {
+    if let Some(hint) = hint(&came, call, &before, setting) {
         sheet.text("hint", hint);
     }
     if let Came::Ended(Ended::Reply(bytes)) = &came {
@@ -39,12 +40,13 @@ fn put_call(sheet: &mut Sheet, call: &Call, before: &Setting) {
     }
 }
 
-fn hint(came: &Came, call: &Call, before: &Setting) -> Option<String> {
+fn hint(came: &Came, call: &Call, before: &Setting, after: &Setting) -> Option<String> {
     match (came, call) {
         (Came::Ended(Ended::Refused(Refusal::Checksum)), Call::Packet(request)) => {
             Some(checksum_hint(request, before))
         }
         (Came::Ended(Ended::Run { function, due, .. }), _) => result_hint(*function, *due, before),
+        (Came::Ended(ended), Call::Packet(request)) => stale_hint(ended, Packet(request), after),
         _ => None,
     }
 }
@@ -64,6 +66,15 @@ fn checksum_hint(request: &[u8], before: &Setting) -> String {
         checksum(message),
         before.would(&summed(message)).text()
     )
+}
+
+// That a sum which was read, or whose curve was written, is not of what the curve holds now.
+fn stale_hint(ended: &Ended, request: Packet, after: &Setting) -> Option<String> {
+    let pair = (request.code(), ended.code());
+    let has_to_do = matches!(pair, (Some(0x0A), Some(0x0B)) | (Some(0x41), Some(0xE0)));
+    let number = request.field(Field::Curve)?;
+    let hint = || format!("the sum of curve {} is stale; 42 renews it", number);
+    (has_to_do && after.lent.is_stale(number)).then(hint)
 }
 
 // How the function's result is handed in.

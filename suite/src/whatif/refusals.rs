@@ -70,7 +70,9 @@ pub fn call_reason(refusal: Refusal, call: &Call, setting: &Setting) -> Option<S
     let lent = &setting.lent;
     match (refusal, call) {
         (_, Call::Packet(request)) => reason(refusal, Packet(request), setting),
-        (Refusal::BoardUnusable, Call::Result { .. } | Call::Store(..)) => table::broken(lent),
+        (Refusal::BoardUnusable, Call::Result { .. } | Call::Store(..) | Call::Fresh) => {
+            table::broken(lent)
+        }
         (Refusal::BoardUnusable, _) => table::variables(&lent.variables),
         (Refusal::NoSuchFunction, Call::Result { function, .. }) => {
             missing("function", *function, lent.functions.len() / 2)
@@ -91,7 +93,7 @@ pub fn call_reason(refusal: Refusal, call: &Call, setting: &Setting) -> Option<S
 // What a call that names a variable is refused for.
 fn variable_reason(refusal: Refusal, call: &Call, setting: &Setting) -> Option<String> {
     let (number, bytes, signed) = match call {
-        Call::Packet(_) | Call::Result { .. } => return None,
+        Call::Packet(_) | Call::Result { .. } | Call::Fresh => return None,
         Call::Store(variable, bytes) => (*variable, bytes.len(), None),
         Call::Read {
             variable,

@@ -6,8 +6,9 @@ use super::packet::Packet;
 use super::request::{checksum_part, field_text, numbers_part, size_part, values_parts};
 use super::sheet::Part;
 use super::things::{curve_text, function, function_text, group, group_text};
-use super::things::{type_name, Curve, Setting};
+use super::things::{sum_text, type_name, Curve, Setting};
 use crate::lent::Lent;
+use cruachvel::{md5, SUM_SIZE};
 
 /// The parts of the reply to a call.
 pub fn parts(reply: Packet, call: &Call, setting: &Setting) -> Vec<Part> {
@@ -17,11 +18,19 @@ pub fn parts(reply: Packet, call: &Call, setting: &Setting) -> Vec<Part> {
         _ => None,
     };
     let payload = reply.payload();
-    let values = match (reply.code(), set) {
-        (Some(0x11 | 0x13), Some(set)) => Some(values_parts("value", set, payload, lent)),
+    let found = match (reply.code(), set, call) {
+        (Some(0x11 | 0x13), Some(set), _) => Some(values_parts("value", set, payload, lent)),
+        (Some(0x0B), _, Call::Packet(request)) => sum_parts(payload, Packet(request), lent),
         _ => None,
     };
-    with_payload(reply, values, lent)
+    with_payload(reply, found, lent)
+}
+
+// The sum that a request asked for.
+fn sum_parts(payload: &[u8], request: Packet, lent: &Lent) -> Option<Vec<Part>> {
+    let number = request.field(Field::Curve)?;
+    let meaning = sum_text(number, lent.is_stale(number));
+    Some(vec![Part::new("sum", payload, meaning)])
 }
 
 /// The parts of a reply to a request that is not known: all values that are as long as what it has.
@@ -29,6 +38,7 @@ pub fn likely_parts(reply: Packet, lent: &Lent) -> Vec<Part> {
     let likely = match reply.code() {
         Some(0x11) => variables(reply.payload(), lent),
         Some(0x13) => groups(reply.payload(), lent),
+        Some(0x0B) => sums(reply.payload(), lent),
         Some(0x51) => functions(reply.payload(), lent),
         _ => Vec::new(),
     };
@@ -79,6 +89,14 @@ fn groups(payload: &[u8], lent: &Lent) -> Vec<Part> {
     parts
 }
 
+// The payload as the sum of each curve that holds what it is of.
+fn sums(payload: &[u8], lent: &Lent) -> Vec<Part> {
+    let fits = |number: &usize| md5(lent.curve_bytes(*number)) == payload;
+    let numbers = (0..lent.curves.len() / 3).filter(fits);
+    let part = |number: usize| Part::new("sum", payload, sum_text(number, false));
+    numbers.map(part).collect()
+}
+
 // The payload as the output of each function that gives so many bytes.
 fn functions(payload: &[u8], lent: &Lent) -> Vec<Part> {
     let fits =
@@ -103,6 +121,10 @@ fn payload_parts(code: u8, payload: &[u8], lent: &Lent) -> Vec<Part> {
         (0x05, _) => list(payload, 1, "group", |record| sized(record[0], "variable")),
         (0x07, _) => vec![numbers_part(payload)],
         (0x09, _) => list(payload, 5, "curve", curve_record),
+        (0x0B, _) if payload.len() == SUM_SIZE => {
+            vec![Part::new("sum", payload, "of what no curve holds now")]
+        }
+        (0x0B, _) => whole("sum"),
         (0x0D, _) => list(payload, 1, "function", |record| {
             function_text((usize::from(record[0] >> 4), usize::from(record[0] & 15)))
         }),

@@ -45,13 +45,23 @@ pub fn call_parts(call: &Call, setting: &Setting) -> Vec<Part> {
         } => vec![
             named_part("function", Field::Function, *function, lent),
             Part::said("answer", due_name(*due), due_text(*due)),
-            if *failed {
-                Part::new("error", bytes, "the function failed")
-            } else {
-                Part::new("output", bytes, counted(bytes.len(), "byte"))
-            },
+            ran_part(*failed, bytes),
         ],
+        Call::Fresh => curve_parts(lent),
     }
+}
+
+fn ran_part(failed: bool, bytes: &[u8]) -> Part {
+    if failed {
+        Part::new("error", bytes, "the function failed")
+    } else {
+        Part::new("output", bytes, counted(bytes.len(), "byte"))
+    }
+}
+
+fn curve_parts(lent: &Lent) -> Vec<Part> {
+    let part = |number| named_part("curve", Field::Curve, number, lent);
+    (0..lent.curves.len() / 3).map(part).collect()
 }
 
 fn named_part(name: &str, field: Field, number: usize, lent: &Lent) -> Part {

@@ -1,7 +1,7 @@
 //! The rule of 01 that decided a call.
 use super::bytes::summed;
 use super::call::Call;
-use super::commands::{Command, COMMANDS};
+use super::commands::{Amended, Command, COMMANDS};
 use super::ended::{Came, Ended};
 use super::packet::Packet;
 use super::refusals;
@@ -14,12 +14,14 @@ use cruachvel::Refusal;
 pub enum Rule {
     /// A local refusal.
     Refusal(Refusal, String),
-    /// A step of the wire errors.
-    Step(&'static Step, String),
+    /// A step of the wire errors, for a request with this code, if it has one.
+    Step(&'static Step, Option<u8>, String),
     /// No refusal and no wire error: the command's row.
     Row(&'static Command),
     /// No refusal: what 01 says of such a call.
     Sentence(&'static str),
+    /// No refusal: what a change request says of such a call.
+    Amended(Amended),
     /// A multicast packet: what its message would have been answered with, and by which rule.
     Multicast(Ended, Box<Rule>),
     /// None that is known to give this outcome for these bytes.
@@ -39,6 +41,10 @@ const UNSIGNED: &str =
     "plain bytes, unsigned or signed; big or little endian; a number has size 1, 2, 4 or 8";
 const WAY_BACK: &str =
     "The way back accepts exactly the numbers of that range and writes the only bytes that read as them.";
+const FRESH: Amended = Amended {
+    request: "2026-02",
+    words: "Each curve's sum is part of the state: a fresh board works it out, a block write leaves it stale, 42 renews it, for read-only curves too.",
+};
 pub const BUSY: &str =
     "Busy marks, bit n of a 64-bit number for variable n (higher bits count for nothing), come from the board with each packet.";
 
@@ -54,11 +60,12 @@ impl Rule {
                 ),
                 reason.clone(),
             ],
-            Rule::Step(step, reason) => vec![step.text(), reason.clone()],
+            Rule::Step(step, code, reason) => vec![step.text(*code), reason.clone()],
             Rule::Sentence(sentence) => vec![format!("no refusal; \"{}\"", sentence)],
+            Rule::Amended(amended) => vec![format!("no refusal; {}", amended.text())],
             Rule::Row(command) => vec![format!(
-                "no refusal and no wire error; the command's row: {}",
-                command.row()
+                "no refusal and no wire error; {}",
+                command.text()
             )],
             Rule::Multicast(would, rule) => {
                 let mut lines = vec![format!("\"{}\"", MULTICAST)];
@@ -73,7 +80,7 @@ impl Rule {
     /// The number of the step of the wire errors, also of one that a multicast kept quiet.
     pub fn step(&self) -> Option<u8> {
         match self {
-            Rule::Step(step, _) => Some(step.number),
+            Rule::Step(step, ..) => Some(step.number),
             Rule::Multicast(_, rule) => rule.step(),
             _ => None,
         }
@@ -92,16 +99,25 @@ impl Rule {
 /// All words of 01 and of its change requests that an explanation can quote.
 pub fn quotes() -> Vec<String> {
     let steps = STEPS.iter().flat_map(|step| {
-        let amended = step.amended.map(|(_, words)| words);
+        let amended = step.amended.as_ref().map(|amended| amended.words);
         [step.words].into_iter().chain(amended).map(str::to_string)
     });
-    let rows = COMMANDS.iter().map(Command::row);
+    let rows = COMMANDS.iter().map(Command::quote);
     let conditions = Refusal::ALL.iter().map(|refusal| {
         let (number, condition) = (refusal.number(), refusals::condition(*refusal));
         format!("| {} | {} | {} |", number, refusal, condition)
     });
     let all = steps.chain(rows).chain(conditions);
-    let sentences = [MULTICAST, STORE, RESULT, SIGNED, UNSIGNED, WAY_BACK, BUSY];
+    let sentences = [
+        MULTICAST,
+        STORE,
+        RESULT,
+        SIGNED,
+        UNSIGNED,
+        WAY_BACK,
+        BUSY,
+        FRESH.words,
+    ];
     all.chain(sentences.map(str::to_string)).collect()
 }
 
@@ -123,6 +139,7 @@ fn refused(refusal: Refusal, call: &Call, before: &Setting) -> Rule {
 fn sentence(call: &Call) -> Rule {
     Rule::Sentence(match call {
         Call::Packet(_) => return Rule::None,
+        Call::Fresh => return Rule::Amended(FRESH),
         Call::Store(..) => STORE,
         Call::Result { .. } => RESULT,
         Call::Read { signed: true, .. } => SIGNED,
@@ -141,7 +158,7 @@ pub fn rule(ended: &Ended, request: Packet, before: &Setting) -> Rule {
         Ended::Silence => multicast(request, before),
         _ => match ended.code() {
             Some(error @ 0xE1..=0xFF) => match step_of(error, request, before) {
-                Some((step, reason)) => Rule::Step(step, reason),
+                Some((step, reason)) => Rule::Step(step, request.code(), reason),
                 None => Rule::None,
             },
             _ => request.command().map_or(Rule::None, Rule::Row),

@@ -2,17 +2,18 @@
 //!
 //! The error is the proved node's. The step is told from it together with the request's bytes and the board.
 use super::bytes::{counted, grouped};
-use super::commands::{operation_name, Command, Field, Rest};
+use super::commands::{operation_name, Amended, Command, Field, Rest};
 use super::packet::Packet;
 use super::things::{busy_text, curve, function, group, missing, Setting};
 
-/// A step of 01's list of wire errors, in 01's words, and in those of a change request that moved it.
+/// A step of 01's list of wire errors, in 01's words, and in those of a change request that moved it; of all commands, or of some.
 #[derive(Debug, PartialEq, Eq)]
 pub struct Step {
     pub number: u8,
     pub error: u8,
     pub words: &'static str,
-    pub amended: Option<(&'static str, &'static str)>,
+    pub amended: Option<Amended>,
+    commands: &'static [u8],
 }
 
 const fn step(number: u8, error: u8, words: &'static str) -> Step {
@@ -21,20 +22,33 @@ const fn step(number: u8, error: u8, words: &'static str) -> Step {
         error,
         words,
         amended: None,
+        commands: &[],
     }
 }
 
-const BUSY_READS: (&str, &str) = (
-    "2026-01",
-    "E8 keeps its place in the order, now for reads too.",
-);
+const BUSY_READS: Amended = Amended {
+    request: "2026-01",
+    words: "E8 keeps its place in the order, now for reads too.",
+};
+
+// A step that 0A and 42 meet too.
+const fn of_sums(step: Step) -> Step {
+    Step {
+        amended: Some(Amended {
+            request: "2026-02",
+            words: "E5 then E3 for both",
+        }),
+        commands: &[0x0A, 0x42],
+        ..step
+    }
+}
 
 #[rustfmt::skip]
 pub const STEPS: [Step; 10] = [
     step(1, 0xE1, "E1: message under 3 bytes, or SIZE not the number of bytes that follow."),
     step(2, 0xE2, "E2: command not above."),
-    step(3, 0xE5, "E5: payload not of the fixed size, or shorter than its front (20, 22, 50: 1; 24, 26, 28: 2; 41: 3; 30: 1), or for 30 more IDs than variables."),
-    step(4, 0xE3, "E3: any variable, group, curve or function named that doesn't exist."),
+    of_sums(step(3, 0xE5, "E5: payload not of the fixed size, or shorter than its front (20, 22, 50: 1; 24, 26, 28: 2; 41: 3; 30: 1), or for 30 more IDs than variables.")),
+    of_sums(step(4, 0xE3, "E3: any variable, group, curve or function named that doesn't exist.")),
     step(5, 0xE2, "E2: operation not one of the six."),
     step(6, 0xE4, "E4: block number not below the count; in 30, IDs not strictly ascending."),
     step(7, 0xE5, "E5 (not for 30): what follows the front is not of the declared length; in 41, not 1 to the block size of bytes."),
@@ -50,10 +64,13 @@ pub fn step_of(error: u8, request: Packet, setting: &Setting) -> Option<(&'stati
 }
 
 impl Step {
-    pub fn text(&self) -> String {
-        let amended = self.amended.map_or(String::new(), |(request, words)| {
-            format!(", by {} \"{}\"", request, words)
+    /// The step's words for a request with this code, if one is known.
+    pub fn text(&self, code: Option<u8>) -> String {
+        let amended = self.amended.as_ref().filter(|_| match code {
+            Some(code) => self.commands.is_empty() || self.commands.contains(&code),
+            None => true,
         });
+        let amended = amended.map_or(String::new(), |amended| format!(", {}", amended.text()));
         format!(
             "step {} of the wire errors: \"{}\"{}",
             self.number, self.words, amended

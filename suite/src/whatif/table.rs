@@ -1,7 +1,7 @@
 //! What in a board breaks 01's table: the reason of refusal 1.
 use super::bytes::{counted, grouped};
 use super::things::{curve, listed};
-use crate::lent::{all_declared, members, values_length, Lent};
+use crate::lent::{all_declared, members, sums_length, values_length, Lent};
 use cruachvel::{Kind, Variable, MOST_BLOCKS, MOST_CURVE_BYTES, MOST_VALUE_BYTES, MOST_VARIABLES};
 
 /// The first thing that breaks the table, if something does.
@@ -127,6 +127,7 @@ fn stores(lent: &Lent) -> Option<String> {
             values_length(&lent.variables),
         ),
         ("curves", lent.blocks.len(), blocks_length(lent)),
+        ("sums", lent.sums.len(), sums_length(&lent.curves)),
     ];
     let (name, lent, right) = stores.into_iter().find(|(_, lent, right)| lent != right)?;
     Some(format!(

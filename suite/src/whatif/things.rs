@@ -138,6 +138,15 @@ pub fn curve_text(curve: Curve) -> String {
     format!("{}, {} of {}", type_name(curve.writable), blocks, of)
 }
 
+/// What a curve's sum is of.
+pub fn sum_text(curve: usize, stale: bool) -> String {
+    if stale {
+        format!("stale: curve {} holds something else now", curve)
+    } else {
+        format!("of what curve {} holds", curve)
+    }
+}
+
 pub fn function_text((input, output): (usize, usize)) -> String {
     format!("{} in, {} out", counted(input, "byte"), grouped(output))
 }

@@ -1,5 +1,6 @@
 //! Board files, and what is said to those that can't be read.
 use crate::{board_a_idle, explained};
+use cruachvel::md5;
 use suite::whatif::board_file::parse;
 use suite::whatif::{table, Setting};
 
@@ -24,6 +25,8 @@ fn a_board_file_says_all_that_a_board_has() {
         variable read-only 1 unsigned big bytes FE
         curve read-only 2 3 bytes 01 02 03
         curve writable 1 2 bytes 0A0B
+        curve writable 1 1
+        sum 1 00 01 02 03 04 05 06 07 08 09 0A 0B 0C 0D 0E 0F
         function 15 0
         function 0 3
         group 0 1
@@ -32,8 +35,11 @@ fn a_board_file_says_all_that_a_board_has() {
     assert_eq!(busy, 0b101);
     assert_eq!((lent.address.own, lent.address.multicast), (9, 1));
     assert_eq!(lent.values, [0xFE, 0xFF, 0, 0, 0, 0xFE]);
-    assert_eq!(lent.curves, [0, 2, 3, 1, 1, 2]);
-    assert_eq!(lent.blocks, [1, 2, 3, 0, 0, 0, 0x0A, 0x0B]);
+    assert_eq!(lent.curves, [0, 2, 3, 1, 1, 2, 1, 1, 1]);
+    assert_eq!(lent.blocks, [1, 2, 3, 0, 0, 0, 0x0A, 0x0B, 0]);
+    let given = std::array::from_fn(|place| place as u8);
+    let sums = [md5(&[1, 2, 3, 0, 0, 0]), given, md5(&[0])];
+    assert_eq!(lent.sums, sums.concat());
     assert_eq!(lent.functions, [15, 0, 0, 3]);
     assert_eq!(
         (lent.groups.count, &lent.groups.sets[..2]),
@@ -66,6 +72,14 @@ fn a_board_file_may_describe_what_01_refuses() {
             "variable writable 1 plain\ngroup 0 4",
             "group 3 has variables that are not declared: 4",
         ),
+        (
+            "variable writable 1 plain\ncurve writable 4 2\nsums 00*15",
+            "the sums' store has 15 bytes; the records add up to 16",
+        ),
+        (
+            "variable writable 1 plain\nsums 00*16",
+            "the sums' store has 16 bytes; the records add up to 0",
+        ),
         ("", "0 variables; 1 to 64 are allowed"),
         (
             "variable writable 3 signed big value -3",
@@ -97,7 +111,7 @@ fn a_board_file_may_describe_what_01_refuses() {
 }
 
 const MISTAKES: &[(&str, &str)] = &[
-        ("addres 5", "line 2: \"addres\" is none of address, multicast, variable, curve, function, group, busy, values and blocks"),
+        ("addres 5", "line 2: \"addres\" is none of address, multicast, variable, curve, sum, function, group, busy, values, blocks and sums"),
         ("address", "line 2: the address is missing"),
         ("address 256", "line 2: the address can't be 256: what the node is lent has room for 0 to 255 there"),
         ("address -1", "line 2: the address can't be -1: what the node is lent has room for 0 to 255 there"),
@@ -110,6 +124,12 @@ const MISTAKES: &[(&str, &str)] = &[
         ("busy 0\nbusy 1", "line 3: a board has one line with busy"),
         ("values\nvalues", "line 3: a board has one line with values"),
         ("blocks 01\nblocks 01", "line 3: a board has one line with blocks"),
+        ("sums\nsums 01", "line 3: a board has one line with sums"),
+        ("sum", "line 2: the curve is missing"),
+        ("sum 0 00*15", "line 2: a sum has 16 bytes, and 15 are given"),
+        ("sum 0 00*16\nsum 0 01*16", "line 3: curve 0 has one line with its sum"),
+        ("address 5\nsum 0 00*16", "line 3: there is no curve 0: the board has none"),
+        ("sum 2 00*16\naddress 5\ncurve writable 1 1\ncurve writable 1 1", "line 2: there is no curve 2: the board has 0 to 1"),
         ("address 5 6", "line 2: \"6\" is too much"),
         ("multicast 8G", "line 2: \"8G\" is no bytes in hex"),
         ("multicast 81 82", "line 2: the multicast byte is one byte in hex"),

@@ -18,6 +18,7 @@ fn order(call: &Call) -> &'static [u8] {
         Call::Packet(_) => &[],
         Call::Result { .. } => &[1, 7, 8],
         Call::Store(..) => &[1, 9, 10],
+        Call::Fresh => &[1],
         Call::Read { .. } => &[1, 9, 11, 10],
         Call::Write { .. } => &[1, 9, 11, 10, 12],
     }
@@ -35,7 +36,7 @@ fn number(random: &mut Random, signed: bool) -> i128 {
     }
 }
 
-// A call of one of four sorts.
+// A call of one of five sorts.
 fn drawn(random: &mut Random, setting: &Setting, sort: usize) -> Call {
     let lent = &setting.lent;
     let variable = random.below(lent.variables.len() + 1);
@@ -44,7 +45,7 @@ fn drawn(random: &mut Random, setting: &Setting, sort: usize) -> Call {
     let output = lent.functions.get(2 * function + 1).copied().unwrap_or(0);
     let off = usize::from(random.once_in(4));
     let signed = random.once_in(2);
-    match sort % 4 {
+    match sort % 5 {
         0 => Call::Store(variable, random.bytes(usize::from(size) + off)),
         1 => Call::Read {
             signed,
@@ -57,6 +58,7 @@ fn drawn(random: &mut Random, setting: &Setting, sort: usize) -> Call {
             number: number(random, signed),
             room: usize::from(size) + off,
         },
+        3 => Call::Fresh,
         _ => {
             let failed = random.once_in(3);
             let length = if failed { 1 } else { usize::from(output) + off };
@@ -81,7 +83,7 @@ fn check(call: &Call, setting: &mut Setting, met: &mut BTreeSet<(&'static str, u
     let first = order(call).iter().copied().find(applies);
     let told = match rule_of(call, &came, &before) {
         Rule::Refusal(refusal, _) => Some(refusal.number()),
-        Rule::Sentence(_) => None,
+        Rule::Sentence(_) | Rule::Amended(_) => None,
         other => panic!("{:?} on {:?} is under {:?}", call, before, other),
     };
     let refused = match came {
@@ -115,6 +117,7 @@ fn every_call_has_the_rule_that_01_comes_to_first() {
     let expected = [
         ("result", vec![0, 7, 8]),
         ("store", vec![0, 9, 10]),
+        ("fresh", vec![0]),
         ("read", vec![0, 9, 10, 11]),
         ("write", vec![0, 9, 10, 11, 12]),
     ];
@@ -135,12 +138,13 @@ fn a_broken_board_is_told_to_every_call_that_looks_at_it() {
         fault.prepare(&mut setting.lent);
         fault.spoil(&mut setting.lent);
         let mut met = BTreeSet::new();
-        for sort in 0..8 {
+        for sort in 0..10 {
             let call = drawn(&mut random, &setting, sort);
             check(&call, &mut setting, &mut met);
         }
         let refused = |name: &str| met.contains(&(name, 1));
-        assert!(refused("store") && refused("result"), "{}", fault.name);
+        let whole = ["store", "result", "fresh"];
+        assert!(whole.into_iter().all(refused), "{}", fault.name);
         assert_eq!(
             (refused("read"), refused("write")),
             (fault.in_variables, fault.in_variables),

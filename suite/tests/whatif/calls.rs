@@ -1,7 +1,7 @@
 //! What is printed of calls that are no packets, and of busy marks.
 use crate::{board_a_idle, explained};
 use suite::whatif::call::{Call, Line};
-use suite::whatif::Session;
+use suite::whatif::{board_file, Session};
 
 #[test]
 fn after_a_50_the_result_is_handed_in() {
@@ -83,6 +83,32 @@ changed   nothing
 }
 
 #[test]
+fn a_fresh_board_is_explained_with_the_sums_that_it_works_out() {
+    let board = "address 5\nvariable writable 1 plain\ncurve writable 4 2\ncurve read-only 1 3\nsum 1 00*16";
+    let mut setting = board_file::parse(board).expect("a board");
+    let expected = "\
+fresh
+  curve         0               curve 0: writable, 2 blocks of 4 bytes
+  curve         1               curve 1: read-only, 3 blocks of 1 byte
+outcome   the sums are worked out
+rule      no refusal; by 2026-02 \"Each curve's sum is part of the state: a fresh board works it out, a block write leaves it stale, 42 renews it, for read-only curves too.\"
+changed   sum of curve 1: 00 00 00 00 00 00 00 00 00 00 00 00 00 00 00 00 -> 69 3E 9A F8 4D 3D FC C7 1E 64 0E 00 5B DC 5E 2E
+";
+    assert_eq!(explained(&mut setting, "fresh"), expected);
+    let again = explained(&mut setting, "fresh");
+    assert!(again.ends_with("changed   nothing\n"), "{}", again);
+    setting.lent.sums.pop();
+    let refused = explained(&mut setting, "fresh");
+    let expected = "\
+outcome   refused with 1, board unusable
+rule      refusal 1, board unusable: \"a record, store length or group breaks the table above\"
+          the sums' store has 31 bytes; the records add up to 32
+changed   nothing
+";
+    assert!(refused.ends_with(expected), "{}", refused);
+}
+
+#[test]
 fn each_refusal_of_a_call_is_told_with_its_reason() {
     let reasons = [
         ("store 1 00 00", "2 bytes; variable 1 has 1"),
@@ -138,13 +164,14 @@ fn a_call_is_printed_as_it_is_read() {
         "write unsigned 2 4660 into 2",
         "result 0 quiet gave 12 34",
         "result 0 due failed 09",
+        "fresh",
     ] {
         let call = match Line::or_packet(text) {
             Ok(Line::Call(call)) => call,
             other => panic!("{} is read as {:?}", text, other),
         };
         let (keyword, rest) = call.words();
-        assert_eq!(format!("{} {}", keyword, rest), text);
+        assert_eq!(format!("{} {}", keyword, rest).trim_end(), text);
     }
     let packet = Ok(Line::Call(Call::Packet(vec![5, 0xFB])));
     assert_eq!(Line::or_packet(" 05 FB "), packet);
@@ -166,6 +193,7 @@ fn a_line_that_is_written_wrong_is_told_how() {
             "result 0 gave 12",
             "a result is written so: result FUNCTION due|quiet gave|failed BYTES",
         ),
+        ("fresh 0", "a fresh is written so: fresh"),
         (
             "write signed 0 1 into 65536",
             "\"65536\" is no number that can stand here",

@@ -62,6 +62,36 @@ fn all_that_a_payload_can_be_is_told() {
 }
 
 #[test]
+fn a_sum_is_decoded_as_that_of_each_curve_that_holds_what_it_is_of() {
+    let board = "
+        address 5
+        variable writable 1 plain
+        curve writable 4 2
+        curve read-only 2 2 bytes 01
+        curve read-only 8 1
+        sum 0 00*16";
+    let setting = parse(board).expect("a board");
+    let expected = "
+  sum           7D EA 36 2B 3F AC 8E 00 95 6A 49 52 A3 D4 F4 74 of what curve 0 holds
+  sum           7D EA 36 2B 3F AC 8E 00 95 6A 49 52 A3 D4 F4 74 of what curve 2 holds
+  checksum      2B              the sum is 0
+rule      by 2026-02 \"0A (payload: curve; answer 0B with 16 bytes)\"
+wrong     nothing
+";
+    let sum = "00 0B 00 10 7D EA 36 2B 3F AC 8E 00 95 6A 49 52 A3 D4 F4 74 2B";
+    let text = decoded(&setting, sum);
+    assert!(text.ends_with(expected), "{}", text);
+    let none = decoded(&setting, "00 0B 00 10 00*16 E5");
+    assert!(none.contains(" of what no curve holds now\n"), "{}", none);
+    let short = decoded(&setting, "00 0B 00 01 00 F4");
+    assert!(
+        short.contains("\n  sum           00              1 byte\n"),
+        "{}",
+        short
+    );
+}
+
+#[test]
 fn a_wire_error_is_told_with_its_steps() {
     let expected = "
   command       E2              operation not supported

@@ -48,6 +48,7 @@ fn other_calls_and_replies_have_their_facts_too() {
     assert!(reply.ends_with(end), "{}", reply);
     for (line, ended) in [
         ("05 20 00 02 01 66 71", "refused 5"),
+        ("fresh", "done"),
         ("FF 10 00 01 00 F0", "silence"),
         ("05 50 00 02 00 07 A2", "run 0 due 07"),
         ("read signed 0 FF*4", "number -1"),
@@ -56,6 +57,23 @@ fn other_calls_and_replies_have_their_facts_too() {
         let ended = format!("\"ended\":\"{}\"", ended);
         assert!(told(line).contains(&ended), "{}", told(line));
     }
+}
+
+#[test]
+fn a_renewed_sum_is_told_too() {
+    let mut setting = board_a_idle();
+    setting.lent.sums.fill(0);
+    let mut session = Session {
+        setting,
+        sum: false,
+    };
+    let text = session.tell("05 42 00 01 00 B8").expect("a packet").json();
+    let zeros = ["00"; 16].join(" ");
+    let end = format!(
+        "\"changed\":[\"sum of curve 0: {} -> 7D EA 36 2B 3F AC 8E 00 95 6A 49 52 A3 D4 F4 74\"]}}\n",
+        zeros
+    );
+    assert!(text.ends_with(&end), "{}", text);
 }
 
 #[test]

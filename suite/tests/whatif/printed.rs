@@ -79,6 +79,70 @@ fn changed_values_are_shown_as_numbers() {
 }
 
 #[test]
+fn a_sum_is_read_and_told_as_stale_until_it_is_renewed() {
+    let mut setting = board_a_idle();
+    let expected = "\
+packet    05 0A 00 01 00 F0
+  destination   05              this board
+  command       0A              query the checksum of a curve
+  SIZE          00 01           1 byte of payload
+  curve         00              curve 0: writable, 2 blocks of 4 bytes
+  checksum      F0              the sum is 0
+outcome   reply 0B, checksum of a curve
+rule      no refusal and no wire error; by 2026-02 \"0A (payload: curve; answer 0B with 16 bytes)\"
+reply     00 0B 00 10 7D EA 36 2B 3F AC 8E 00 95 6A 49 52 A3 D4 F4 74 2B
+  destination   00              the master
+  command       0B              checksum of a curve
+  SIZE          00 10           16 bytes of payload
+  sum           7D EA 36 2B 3F AC 8E 00 95 6A 49 52 A3 D4 F4 74 of what curve 0 holds
+  checksum      2B              the sum is 0
+changed   nothing
+";
+    assert_eq!(explained(&mut setting, "05 0A 00 01 00 F0"), expected);
+    let hint = "\nhint      the sum of curve 0 is stale; 42 renews it\n";
+    let written = explained(&mut setting, "05 41 00 07 00 00 01 57 41 53 48 7F");
+    assert!(written.contains(hint), "{}", written);
+    let stale = explained(&mut setting, "05 0A 00 01 00 F0");
+    assert!(stale.contains(hint), "{}", stale);
+    let part = "F4 74 stale: curve 0 holds something else now\n";
+    assert!(stale.contains(part), "{}", stale);
+    let renewed = explained(&mut setting, "05 42 00 01 00 B8");
+    let end = "\
+changed   sum of curve 0: 7D EA 36 2B 3F AC 8E 00 95 6A 49 52 A3 D4 F4 74 -> ";
+    assert!(renewed.contains(end), "{}", renewed);
+    let rule = "wire error; by 2026-02 \"42 (payload: curve; answer E0)\"\n";
+    assert!(renewed.contains(rule), "{}", renewed);
+    assert!(!explained(&mut setting, "05 0A 00 01 00 F0").contains("stale"));
+}
+
+#[test]
+fn the_request_is_named_beside_the_steps_that_0a_and_42_meet() {
+    let amended = "by 2026-02 \"E5 then E3 for both\"\n";
+    let reasons = [
+        ("05 0A 00 02 00 00 EF", "2 bytes; 0A takes 1"),
+        ("05 42 00 00 B9", "0 bytes; 42 takes 1"),
+        (
+            "05 0A 00 01 01 EF",
+            "there is no curve 1: the board has 0 to 0",
+        ),
+        (
+            "05 42 00 01 01 B7",
+            "there is no curve 1: the board has 0 to 0",
+        ),
+    ];
+    for (packet, reason) in reasons {
+        let text = explained(&mut board_a_idle(), packet);
+        assert!(text.contains(amended) && text.contains(reason), "{}", text);
+    }
+    let others = explained(&mut board_a_idle(), "05 10 00 01 03 E7");
+    assert!(
+        others.contains("step 4") && !others.contains("2026-02"),
+        "{}",
+        others
+    );
+}
+
+#[test]
 fn a_checksum_that_was_left_out_is_pointed_out() {
     let hint = |packet: &str| {
         let text = explained(&mut board_a_idle(), packet);

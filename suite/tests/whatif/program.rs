@@ -53,7 +53,7 @@ const MISUSES: &[(&[&str], i32, &str)] = &[
     (
         &["stroe 1 66"],
         1,
-        "whatif: argument 1: \"stroe\" is neither bytes in hex nor packet, store, read, write, result or busy",
+        "whatif: argument 1: \"stroe\" is neither bytes in hex nor packet, store, read, write, result, fresh or busy",
     ),
     (
         &["--reply", "00 1G"],
@@ -74,7 +74,7 @@ fn the_program_ends_with_what_it_promises() {
         assert_eq!(said(&output), (Some(*status), message.to_string()));
     }
     let output = whatif(&[], "# one\n\n05 FB\nxx\n");
-    let message = "whatif: line 4: \"xx\" is neither bytes in hex nor packet, store, read, write, result or busy";
+    let message = "whatif: line 4: \"xx\" is neither bytes in hex nor packet, store, read, write, result, fresh or busy";
     assert_eq!(said(&output), (Some(1), message.to_string()));
     assert!(output.stdout.starts_with(b"packet    05 FB\n"));
 }

@@ -4,7 +4,7 @@ use cruachvel::Refusal;
 use std::collections::BTreeSet;
 use suite::boards::usable;
 use suite::faults::faults;
-use suite::packets::Drawer;
+use suite::packets::{Drawer, COMMANDS};
 use suite::random::Random;
 use suite::whatif::call::Call;
 use suite::whatif::packet::Packet;
@@ -47,7 +47,7 @@ impl Met {
                 assert_eq!(Some(*refusal), refused, "{}", told());
                 self.refusals.insert(refusal.number());
             }
-            Rule::Step(chosen, _) => {
+            Rule::Step(chosen, ..) => {
                 assert_eq!((None, Some(*chosen)), (refused, step), "{}", told());
                 self.steps
                     .insert((chosen.number, second_reason(chosen, request)));
@@ -61,7 +61,7 @@ impl Met {
                 assert!(!matches!(**rule, Rule::Refusal(..) | Rule::Multicast(..)));
                 self.check(rule, request, before);
             }
-            Rule::Sentence(_) | Rule::None => panic!("{}", told()),
+            Rule::Sentence(_) | Rule::Amended(_) | Rule::None => panic!("{}", told()),
         }
     }
 }
@@ -124,7 +124,7 @@ fn every_outcome_has_the_rule_that_01_comes_to_first() {
         (0..PACKETS).for_each(|_| one(&mut random, &mut setting, &mut met));
     }
     assert_eq!(met.refusals, BTreeSet::from([2, 4, 5, 6]));
-    assert_eq!(met.rows.len(), 18, "{:02X?}", met.rows);
+    assert_eq!(met.rows, BTreeSet::from(COMMANDS));
     let steps = (1..=10).map(|number| (number, false));
     let expected: BTreeSet<(u8, bool)> = steps.chain([(1, true), (6, true), (9, true)]).collect();
     assert_eq!(met.steps, expected);
