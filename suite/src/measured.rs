@@ -26,6 +26,7 @@ fn measured(name: &'static str, lent: &Lent, command: u8, payload: &[u8]) -> Mea
 pub fn all() -> Vec<Measured> {
     let mut all = on_small_boards();
     all.extend(on_full_boards());
+    all.extend(on_the_longest_curve());
     all
 }
 
@@ -40,6 +41,8 @@ fn on_small_boards() -> Vec<Measured> {
         measured("read of a variable, board A", &a, 0x10, &[1]),
         measured("write of a variable, board A", &a, 0x20, &[1, 0x66]),
         measured("write and read, board A", &a, 0x28, &[1, 2, 0x66]),
+        measured("read of a sum, board A", &a, 0x0A, &[0]),
+        measured("renewal of a sum of 8 bytes, board A", &a, 0x42, &[0]),
         measured("read of a group of 3", &a, 0x12, &[0]),
         measured(
             "write of a group of 3",
@@ -85,6 +88,16 @@ fn on_full_boards() -> Vec<Measured> {
         measured("list of curves", &full, 0x08, &[]),
         measured("list of functions", &full, 0x0C, &[]),
         unusable,
+    ]
+}
+
+fn on_the_longest_curve() -> Vec<Measured> {
+    let mut lent = full_board();
+    lent.curves = Curve::numbers(&[Curve::writable(4096, 16)]).to_vec();
+    let lent = lent.fresh();
+    vec![
+        measured("read of a sum of 65,536 bytes", &lent, 0x0A, &[0]),
+        measured("renewal of a sum of 65,536 bytes", &lent, 0x42, &[0]),
     ]
 }
 
