@@ -214,10 +214,10 @@ impl Differ {
         ending: &Ending,
         what: &str,
     ) -> Difference {
-        let (proved, lent) = (&self.proved, &second.lent);
+        let proved = &self.proved;
         Difference(format!(
             "seed {}, call {}: the nodes differ in {}\n\
-             board: {:?}, own {}, multicast {:02X}, stores of {} and {} bytes\n\
+             board: {}\n\
              call: {:02X?}\n\
              proved node: {}\n\
              second node: {}\n\
@@ -225,11 +225,7 @@ impl Differ {
             self.seed,
             self.tally.calls + 1,
             what,
-            lent.table(),
-            lent.address.own,
-            lent.address.multicast,
-            second.values.len(),
-            second.blocks.len(),
+            board(second),
             call,
             left(
                 told,
@@ -248,6 +244,18 @@ impl Differ {
                 .position(|(a, b)| a != b),
         ))
     }
+}
+
+fn board(second: &SecondLent) -> String {
+    let lent = &second.lent;
+    let lengths = [&second.values, &second.blocks, &second.sums].map(Vec::len);
+    format!(
+        "{:?}, own {}, multicast {:02X}, values, blocks and sums of {:?} bytes",
+        lent.table(),
+        lent.address.own,
+        lent.address.multicast,
+        lengths
+    )
 }
 
 // How a call ended on one of the nodes and what it left, of the buffer as much as is worth printing.
