@@ -113,6 +113,22 @@ fn a_message_with_nothing_wrong_gets_no_error() {
     }
 }
 
+// A sum is neither a thing that is written nor a variable.
+#[test]
+fn sums_are_read_and_renewed_whatever_is_read_only_or_busy() {
+    for (command, answer) in [(0x0A, 0x0B), (0x42, 0xE0)] {
+        for curve in [0, 1] {
+            let mut lent = rich_board();
+            let message = suite::packets::message(command, &[curve]);
+            let request = packet(lent.address.own, &message);
+            match lent.packet(u64::MAX, &request, &mut [0; 4104]) {
+                cruachvel::Outcome::Reply(reply) => assert_eq!(reply[1], answer),
+                other => panic!("{:02X?} ended in {:?}", message, other),
+            }
+        }
+    }
+}
+
 #[test]
 fn every_code_that_is_no_command_gets_e2() {
     for code in (0..=255).filter(|code| !COMMANDS.contains(code)) {

@@ -9,7 +9,7 @@ use suite::random::Random;
 const PAIRS: usize = 600;
 const MOST_CALLS: usize = 120;
 
-/// One board, in two states that differ in the bytes of `variable` alone.
+/// One board, in two states that differ in the bytes of `variable` alone; so they have equal blocks and equal sums.
 #[derive(Clone)]
 struct Twins {
     left: Lent,
@@ -40,6 +40,7 @@ enum Call {
         variable: usize,
         bytes: Vec<u8>,
     },
+    Fresh,
 }
 
 impl Twins {
@@ -133,6 +134,10 @@ impl Twins {
                 assert_eq!(left, self.right.board_store(*variable, bytes));
                 false
             }
+            Call::Fresh => {
+                assert_eq!(self.left.fresh_board(), self.right.fresh_board());
+                false
+            }
         }
     }
 
@@ -161,7 +166,8 @@ impl Twins {
                 let bytes = random.bytes(size.into());
                 Call::Store { variable, bytes }
             }
-            2 | 3 => {
+            2 => Call::Fresh,
+            3 | 4 => {
                 let function = random.below(self.left.functions.len() / 2 + 1);
                 let record = self.left.functions.chunks_exact(2).nth(function);
                 let output = random.bytes(record.map_or(0, |record| record[1].into()));

@@ -1,5 +1,5 @@
 //! Laws of 01 on compiled code, over random boards, right and wrong, and random packets: what each way to end may leave changed.
-use cruachvel::Outcome;
+use cruachvel::{md5, Outcome, SUM_SIZE};
 use suite::boards::usable;
 use suite::faults::faults;
 use suite::lent::{members, Lent};
@@ -155,6 +155,82 @@ fn a_group_write_stores_all_members_or_none() {
         stored,
         stopped
     );
+}
+
+// How many curves a board has.
+fn curves(lent: &Lent) -> usize {
+    lent.curves.len() / 3
+}
+
+// What 42 of a curve, or a fresh board, makes of a state.
+fn renewed(before: &Lent, curves: impl Iterator<Item = usize>) -> Lent {
+    let mut after = before.clone();
+    for curve in curves {
+        let sum = md5(before.curve_bytes(curve));
+        after.sums[curve * SUM_SIZE..(curve + 1) * SUM_SIZE].copy_from_slice(&sum);
+    }
+    after
+}
+
+// Block writes among the packets leave sums stale, answered or not.
+#[test]
+fn packets_change_sums_by_42_alone_and_then_nothing_else() {
+    let mut random = Random::new(26);
+    let mut renewals = 0;
+    for _ in 0..BOARDS {
+        let mut lent = small_board(&mut random);
+        for _ in 0..PACKETS {
+            let before = lent.clone();
+            let groups = &before.groups;
+            let (request, draft) = Drawer {
+                random: &mut random,
+                lent: &before,
+                groups,
+            }
+            .packet();
+            lent.packet(draft.busy, &request, &mut [0; 4104]);
+            if lent.sums != before.sums {
+                assert_eq!(request[1..4], [0x42, 0, 1], "{:02X?}", draft);
+                let curve = usize::from(request[4]);
+                assert_eq!(lent, renewed(&before, std::iter::once(curve)));
+                renewals += 1;
+            }
+        }
+    }
+    assert!(
+        renewals > BOARDS / 10,
+        "only {} sums were renewed",
+        renewals
+    );
+}
+
+#[test]
+fn a_fresh_board_has_the_sums_of_what_its_curves_hold_and_nothing_else_changes() {
+    let mut random = Random::new(27);
+    for _ in 0..BOARDS {
+        let mut lent = small_board(&mut random);
+        let expected = renewed(&lent, 0..curves(&lent));
+        assert_eq!(lent.fresh_board(), Ok(()));
+        assert_eq!(lent, expected);
+    }
+}
+
+#[test]
+fn a_sum_is_read_as_it_stands_and_is_that_of_the_curve_after_42() {
+    let mut random = Random::new(28);
+    for _ in 0..BOARDS {
+        let mut lent = small_board(&mut random);
+        for curve in 0..curves(&lent) {
+            let (number, before) = (curve as u8, lent.clone());
+            let stands = message(0x0B, before.sum(curve));
+            assert_eq!(lent.ask(&message(0x0A, &[number])), stands);
+            assert_eq!(lent, before);
+            assert_eq!(lent.ask(&message(0x42, &[number])), [0xE0, 0, 0]);
+            assert_eq!(lent, renewed(&before, curve..curve + 1));
+            let sum = message(0x0B, &md5(lent.curve_bytes(curve)));
+            assert_eq!(lent.ask(&message(0x0A, &[number])), sum);
+        }
+    }
 }
 
 #[test]

@@ -16,11 +16,26 @@ fn wrong(text: &str, node: Node) -> Vec<String> {
         .collect()
 }
 
-// A change is told as "variable 1: 5A -> 55", and named by the line "variable 1 55".
+// How a line starts that names a change: "variable 1: 5A -> 55" is named by "variable 1 55".
+fn naming(change: &str) -> String {
+    let thing = change.split_once(':').map_or(change, |(thing, _)| thing);
+    let words: Vec<&str> = thing.split_whitespace().collect();
+    match words[..] {
+        ["sum", "of", "curve", curve] => format!("sum {} ", curve),
+        ["curve", curve, "block", block, ..] => {
+            format!(
+                "block {} {} ",
+                curve.trim_end_matches(','),
+                block.trim_end_matches(',')
+            )
+        }
+        _ => format!("{} ", thing),
+    }
+}
+
 fn unnamed(act: &Act, changes: &[String]) -> Vec<String> {
     let named = |change: &str| {
-        let thing = change.split_once(':').map_or(change, |(thing, _)| thing);
-        let line = format!("{} ", thing);
+        let line = naming(change);
         act.expected.iter().any(|(_, said)| said.starts_with(&line))
     };
     let line = |change: &String| format!("line {}: no line names {}", act.line, change);
@@ -49,12 +64,18 @@ packet 05 22 00 04 02 01 02 03 CD
 reply 00 E0 00 00 20
 variable 1 01
 variable 2 02 03
-reads 2 770";
+reads 2 770
+packet 05 41 00 04 00 00 01 66 4F
+reply 00 E0 00 00 20
+block 0 1 66 00 00 00
+packet 05 42 00 01 00 B8
+reply 00 E0 00 00 20
+sum 0 18 04 7A 5E FD 30 D2 45 AB BF 6A 11 91 BC 12 05";
 
 const CHANGES: &[(&str, &str, &str)] = &[
     (
-        "E0 00 00 20",
-        "E6 00 00 1A",
+        "E0 00 00 20\nvariable",
+        "E6 00 00 1A\nvariable",
         "line 3: it says \"reply 00 E6 00 00 1A\", and it is \"reply 00 E0 00 00 20\"",
     ),
     (
@@ -66,6 +87,21 @@ const CHANGES: &[(&str, &str, &str)] = &[
         "variable 1 01\n",
         "",
         "line 2: no line names variable 1: 5A -> 01",
+    ),
+    (
+        "block 0 1 66 00 00 00\n",
+        "",
+        "line 7: no line names curve 0, block 1, from byte 0: 00 -> 66",
+    ),
+    (
+        "sum 0 18 04",
+        "sum 0 18 05",
+        "line 12: it says \"sum 0 18 05 7A 5E FD 30 D2 45 AB BF 6A 11 91 BC 12 05\", and it is \"sum 0 18 04 7A 5E FD 30 D2 45 AB BF 6A 11 91 BC 12 05\"",
+    ),
+    (
+        "\nsum 0 18 04 7A 5E FD 30 D2 45 AB BF 6A 11 91 BC 12 05",
+        "",
+        "line 10: no line names sum of curve 0: 7D EA 36 2B 3F AC 8E 00 95 6A 49 52 A3 D4 F4 74 -> 18 04 7A 5E FD 30 D2 45 AB BF 6A 11 91 BC 12 05",
     ),
 ];
 

@@ -89,11 +89,46 @@ fn section_3_4_10_most_blocks_are_sent_as_0() {
 }
 
 #[test]
-fn sections_3_4_11_and_3_8_3_checksums_of_curves() {
-    // 01 leaves both unbuilt, so they are no commands: E2.
+fn sections_3_4_11_and_3_4_12_checksum_of_a_curve() {
     let mut lent = board(&[(0, 1)], &[Curve::writable(1, 1); 3], &[]);
-    assert_eq!(lent.ask(&[0x0A, 0x00, 0x01, 0x02]), [0xE2, 0x00, 0x00]);
-    assert_eq!(lent.ask(&[0x42, 0x00, 0x01, 0x00]), [0xE2, 0x00, 0x00]);
+    let sum = [
+        0x01, 0x23, 0x45, 0x67, 0x89, 0xAB, 0xCD, 0xEF, 0xFE, 0xDC, 0xBA, 0x98, 0x76, 0x54, 0x32,
+        0x10,
+    ];
+    lent.sums[2 * 16..].copy_from_slice(&sum);
+    let checksum = [&[0x0B, 0x00, 0x10][..], &sum].concat();
+    assert_eq!(lent.ask(&[0x0A, 0x00, 0x01, 0x02]), checksum);
+    assert_eq!(lent.ask(&[0x0A, 0x00, 0x01, 0x03]), [0xE3, 0x00, 0x00]);
+}
+
+#[test]
+fn section_3_8_3_recalculate_the_checksum_of_a_curve() {
+    let mut lent = board(
+        &[(0, 1)],
+        &[Curve::writable(1, 3), Curve::read_only(1, 1)],
+        &[],
+    );
+    let fresh = lent.sums.clone();
+    let ask = [
+        [0x41, 0, 4, 0, 0, 0, b'a'],
+        [0x41, 0, 4, 0, 0, 1, b'b'],
+        [0x41, 0, 4, 0, 0, 2, b'c'],
+    ];
+    for block in ask {
+        assert_eq!(lent.ask(&block), OK);
+    }
+    // In 001 a block write sets the checksum to 0 and 42 is answered with 0B; by 2026-02 it stays, and 42 is answered with E0.
+    assert_eq!(lent.sums, fresh);
+    assert_eq!(lent.ask(&[0x42, 0x00, 0x01, 0x00]), OK);
+    let abc = [
+        0x90, 0x01, 0x50, 0x98, 0x3C, 0xD2, 0x4F, 0xB0, 0xD6, 0x96, 0x3F, 0x7D, 0x28, 0xE1, 0x7F,
+        0x72,
+    ];
+    assert_eq!(
+        (&lent.sums[..16], &lent.sums[16..]),
+        (&abc[..], &fresh[16..])
+    );
+    assert_eq!(lent.ask(&[0x42, 0x00, 0x01, 0x02]), [0xE3, 0x00, 0x00]);
 }
 
 #[test]
