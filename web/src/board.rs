@@ -5,8 +5,8 @@ use suite::whatif::bytes::{hex, shown};
 use suite::whatif::changes::value_text;
 use suite::whatif::json::{array, object, string};
 use suite::whatif::things::{
-    curve, curve_start, curve_text, function, function_text, group, group_text, kind_name, listed,
-    number, type_name, value, variable_text, Setting,
+    curve, curve_text, function, function_text, group, group_text, kind_name, listed, number,
+    sum_text, type_name, value, variable_text, Setting,
 };
 
 /// Board A of 01, which is there before any other.
@@ -23,7 +23,8 @@ pub fn things(setting: &Setting) -> String {
     let mut things = vec![thing("address", &address_text(lent), None)];
     things.extend((0..lent.variables.len()).map(|number| variable(setting, number)));
     things.extend((0..).map_while(|number| group_thing(lent, number)));
-    things.extend((0..).map_while(|number| curve_thing(lent, number)));
+    let curves = (0..).map_while(|number| curve_things(lent, number));
+    things.extend(curves.flatten());
     things.extend((0..).map_while(|number| function_thing(lent, number)));
     object([("things", array(things))])
 }
@@ -60,22 +61,23 @@ fn group_thing(lent: &Lent, number: usize) -> Option<String> {
     Some(thing(&format!("group {}", number), &what, None))
 }
 
-fn curve_thing(lent: &Lent, number: usize) -> Option<String> {
-    let what = curve_text(curve(lent, number)?);
-    let holds = shown(curve_bytes(lent, number));
-    Some(thing(&format!("curve {}", number), &what, Some(holds)))
+// A curve and its sum.
+fn curve_things(lent: &Lent, number: usize) -> Option<[String; 2]> {
+    let (what, name) = (
+        curve_text(curve(lent, number)?),
+        format!("curve {}", number),
+    );
+    let (bytes, sum) = (shown(lent.curve_bytes(number)), shown(lent.sum(number)));
+    let about = sum_text(number, lent.is_stale(number));
+    Some([
+        thing(&name, &what, Some(bytes)),
+        thing(&format!("sum of {}", name), &about, Some(sum)),
+    ])
 }
 
 fn function_thing(lent: &Lent, number: usize) -> Option<String> {
     let what = function_text(function(lent, number)?);
     Some(thing(&format!("function {}", number), &what, None))
-}
-
-// A curve's bytes, as far as the store has them.
-fn curve_bytes(lent: &Lent, number: usize) -> &[u8] {
-    let end = lent.blocks.len();
-    let (start, after) = (curve_start(lent, number), curve_start(lent, number + 1));
-    &lent.blocks[start.min(end)..after.min(end)]
 }
 
 /// The words of the lines that describe a board, by the name that starts the line.
@@ -95,6 +97,7 @@ pub fn form(setting: &Setting) -> String {
             "curve",
             rows((0..).map_while(|number| curve_words(lent, number))),
         ),
+        ("sum", rows(given_sums(lent, &fitted))),
         (
             "function",
             rows(functions.map(|sizes| sizes.iter().map(u8::to_string).collect())),
@@ -103,6 +106,7 @@ pub fn form(setting: &Setting) -> String {
         ("busy", rows([vec![listed(members(setting.busy))]])),
         ("values", rows(odd_store(&lent.values, &fitted.values))),
         ("blocks", rows(odd_store(&lent.blocks, &fitted.blocks))),
+        ("sums", rows(odd_store(&lent.sums, &fitted.sums))),
     ])
 }
 
@@ -131,7 +135,7 @@ fn variable_words(lent: &Lent, variable: usize) -> Vec<String> {
 // Zeros at the end need not be said.
 fn curve_words(lent: &Lent, number: usize) -> Option<Vec<String>> {
     let record = curve(lent, number)?;
-    let bytes = curve_bytes(lent, number);
+    let bytes = lent.curve_bytes(number);
     let said = bytes
         .iter()
         .rposition(|byte| *byte != 0)
@@ -142,6 +146,22 @@ fn curve_words(lent: &Lent, number: usize) -> Option<Vec<String>> {
         record.blocks.to_string(),
         hex(&bytes[..said]),
     ])
+}
+
+// The sums that are not as a board file has them where it says none. Of another length than the records make, they have a line of their own.
+fn given_sums(lent: &Lent, fitted: &Lent) -> Vec<Vec<String>> {
+    if lent.sums.len() != fitted.sums.len() {
+        return Vec::new();
+    }
+    let mut without = lent.clone();
+    without.sums.fill(0);
+    let _ = without.fresh_board();
+    let given = |number: &usize| lent.sum(*number) != without.sum(*number);
+    let words = |number: usize| vec![number.to_string(), hex(lent.sum(number))];
+    (0..lent.curves.len() / 3)
+        .filter(given)
+        .map(words)
+        .collect()
 }
 
 // Of more groups than there is room for, nothing is known but how many they are.

@@ -80,7 +80,9 @@ fn lines(acts: &[Act]) -> Vec<String> {
         busy = act.busy;
         lines.push(match &act.call {
             Call::Packet(_) => act.text.clone(),
-            call => format!("{} {}", call.words().0, act.text),
+            call => format!("{} {}", call.words().0, act.text)
+                .trim_end()
+                .to_string(),
         });
     }
     lines

@@ -141,6 +141,18 @@ def a_function_is_run_and_undone(page):
     holds("there is more to undo", page.browser.value("document.getElementById('undo').disabled"))
 
 
+def a_sum_goes_stale_and_is_renewed(page):
+    has("the sum", page.thing("sum of curve 0"), "of what curve 0 holds", "7D EA 36 2B")
+    page.run("05 41 00 04 00 00 01 66 4F")
+    has("the sum", page.thing("sum of curve 0"), "stale", "7D EA 36 2B")
+    page.sees("#facts", "the sum of curve 0 is stale; 42 renews it")
+    page.run("05 42 00 01 00 B8")
+    page.sees("#facts", "42 (payload: curve; answer E0)", "sum of curve 0: 7D EA 36 2B")
+    has("the sum", page.thing("sum of curve 0"), "of what curve 0 holds", "18 04 7A 5E")
+    page.run("05 0A 00 01 00 F0")
+    page.sees_row("sum", "18 04 7A 5E", "of what curve 0 holds")
+
+
 def a_broken_link_is_told(page):
     page.run(READ)
     link = page.browser.value("location.hash")
@@ -199,10 +211,13 @@ def a_board_from_the_form(page):
     page.browser.type("[data-line=variable] input.holds", "-4")
     page.browser.click("[data-add=group]")
     page.browser.type("[data-line=group] input", "0 1")
+    page.browser.click("[data-add=sum]")
+    page.browser.type("[data-line=sum] label:nth-of-type(2) input", "AB*16")
     page.browser.click("#board-form .main")
     has("the address", page.thing("address"), "9")
     has("variable 0", page.thing("variable 0"), "FF FF FF FC (-4)")
     has("group 3", page.thing("group 3"), "read-only, variables 0 1")
+    has("the sum", page.thing("sum of curve 0"), "stale", "AB AB")
     page.run("09 10 00 01 00 E6")
     page.browser.click("#anew")
     is_same("history", page.outcomes(), [])
@@ -261,7 +276,7 @@ def it_fits_a_telephone(page):
 
 # ---- The handbook's questions, on the page and by whatif ----
 
-CALLS = ("packet", "store", "read", "write", "result", "busy")
+CALLS = ("packet", "store", "read", "write", "result", "fresh", "busy")
 SHOW_ALL = """about.questions.map(({ question }, place) => {
     part("question").value = place;
     part("question-form").requestSubmit();
@@ -316,7 +331,7 @@ def the_questions_are_told_as_by_whatif(page):
 
 # ---- Random calls, on the page and by whatif ----
 
-COMMANDS = bytes.fromhex("00 02 04 06 08 0C 10 12 20 22 24 26 28 30 32 40 41 50 7F")
+COMMANDS = bytes.fromhex("00 02 04 06 08 0A 0C 10 12 20 22 24 26 28 30 32 40 41 42 50 7F")
 RANDOM_LINES = 1500  # on each board
 ASK_ALL = "(([board, lines]) => { ask('begin', board); return lines.map((line) => ask('tell_summed', line).facts); })(%s)"
 
@@ -324,6 +339,8 @@ ASK_ALL = "(([board, lines]) => { ask('begin', board); return lines.map((line) =
 def random_line(random):
     """A packet without its checksum, most of them of a right form, or a call of the board's own."""
     some = lambda most: bytes(random.choice((0, 1, 2, 3, 0x54, random.randrange(256))) for _ in range(random.randrange(most)))
+    if random.randrange(100) == 0:
+        return "fresh"
     if random.randrange(8) == 0:
         return random.choice(("store %d %s", "read signed %d %s", "read unsigned %d %s", "result %d due gave %s")) % (random.randrange(3), some(5).hex())
     payload = some(9)
@@ -364,6 +381,7 @@ TESTS = [
     (a_checksum_is_added, "page.js", 'sum ? "summed" : "call", text]', '"call", text]'),
     (a_write_gets_its_rule_also_by_a_link, "page.js", "calls.map(({ text, sum }) =>", "calls.slice(1).map(({ text, sum }) =>"),
     (a_function_is_run_and_undone, "page.js", "show(last, run(last));", "show(last, came);"),
+    (a_sum_goes_stale_and_is_renewed, "wasm", b"is stale; 42", b"is fine; 042"),
     (a_broken_link_is_told, "page.js", "sum !== check(JSON.stringify(pairs))", "!sum"),
     (an_error_in_the_hex_is_placed, "page.js", "letters[place - 1] });", "letters[place] });"),
     (a_bad_board_file_is_told_and_not_used, "page.js", "  if (begun.mistake) return begun;\n", ""),
