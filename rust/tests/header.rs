@@ -26,6 +26,7 @@ fn limits() {
         ("MOST_CURVES", cruachvel::MOST_CURVES),
         ("MOST_BLOCKS", cruachvel::MOST_BLOCKS),
         ("MOST_CURVE_BYTES", cruachvel::MOST_CURVE_BYTES),
+        ("SUM_SIZE", cruachvel::SUM_SIZE),
         ("MOST_PACKET", cruachvel::MOST_PACKET),
         ("REPLY_ROOM", cruachvel::REPLY_ROOM),
     ];

@@ -1,5 +1,6 @@
 //! The bench program on input of every sort: each record ends in one line, and the second node's bench prints the same.
 //! BENCH names the program; else it is where `rt check bench` puts it.
+use std::collections::BTreeSet;
 use std::path::Path;
 use suite::boards::board_a;
 use suite::packets::Drawer;
@@ -101,6 +102,13 @@ fn drawn_packets() {
             .any(|line| line.split(' ').nth(1) == Some(word));
         assert!(met, "no record ended in {}", word);
     }
+    let sums = lines.iter().filter_map(|line| line.split_once(" 000B0010"));
+    let sums: BTreeSet<&str> = sums.map(|(_, sum)| sum).collect();
+    assert!(
+        sums.len() > 100,
+        "only {} different sums were read",
+        sums.len()
+    );
 }
 
 #[test]
