@@ -225,7 +225,7 @@ impl Draft {
     }
 
     fn sum(&mut self, words: &mut Words, line: usize) -> Result<(), String> {
-        let number = words.number("the curve", u32::MAX)?;
+        let number = words.number::<u32>("the curve", u32::MAX)? as usize;
         let bytes = words.bytes()?;
         if bytes.len() != SUM_SIZE {
             let given = bytes.len();
