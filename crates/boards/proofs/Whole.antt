@@ -2,17 +2,16 @@
 use mathlib.Core.Path.{_≡_, refl, sym, ap, _∙_}
 use mathlib.Core.Bool.{Bool, true, false, not, _&&_, false≢true}
 use mathlib.Core.List.{List}
-use Prim.Native.Nat.{ℕ, _*_}
+use Prim.Native.Nat.{ℕ, _+_, _-_, _*_, _/_, _%_}
+use native.Mathlib.Decide.{ℕ-discrete}
 use native.Mathlib.Omega.{arith}
 use lib.ListN.{length}
 use lib.Dec.{eqb}
-use mir.Syntax.{w64}
-use mir.Val.{Fits}
-use borrow.Author.Tests.{not-true, not-false, eq-eqb, eqb-true}
+use borrow.Author.Tests.{not-true, not-false, eq-eqb, ne-eqb, eqb-true}
 use Rattle.bsmp.specs.Base.{sum}
-use Rattle.bsmp.specs.Board.{Table, layout, sizesOf, blockSizes, sumSizes, usableVariables, usableFunctions, usableGroups, usable}
+use Rattle.bsmp.specs.Board.{Table, layout, sizesOf, blockSizes, sumSizes, usableVariables, usableCurves, usableFunctions, usableGroups, usable}
 use Rattle.bsmp.specs.Store.{Lent, held}
-use Rattle.bsmp.proofs.Bools.{and-true, not-so}
+use Rattle.bsmp.proofs.Bools.{and-true, not-so, bool-eq}
 use Rattle.bsmp.proofs.Store.{curve-bytes, sum-bytes}
 use Rattle.rules.proofs.Totals.{total-usable, total-bytes}
 use Rattle.records.specs.declared.Records.{Records}
@@ -20,8 +19,39 @@ use Rattle.records.specs.declared.Groups.{Groups}
 use Rattle.rules.specs.declared.Total.{Total}
 use Rattle.records.specs.Lending.{recordsOf, curvesOf, functionsOf, groupsOf, tableOf, lent}
 use Rattle.rules.specs.Totals.{variablesTotal, curvesTotal}
-use Rattle.records.proofs.Lending.{record-count}
-use Rattle.records.proofs.Sound.{Sound, usable-sound, sound-usable, curves-most}
+use Rattle.records.proofs.Lending.{record-count, curve-count}
+use Rattle.rules.proofs.Thirds.{cut-off}
+use Rattle.records.proofs.Sound.{Sound, usable-sound, sound-usable}
+
+-- the sums' length goes by the number of curves, which have three numbers each: d bytes and c numbers are of k curves
+curves-of : (d c : ℕ) (P : Type 0) → 3 * d ≡ 16 * c → ((k : ℕ) → d ≡ 16 * k → c ≡ 3 * k → P) → P
+curves-of d c P e f = f (d - 5 * c) (omega (arith, e)) (omega (arith, e))
+
+of-curves : (d c k : ℕ) → d ≡ 16 * k → c ≡ 3 * k → (d % 16 ≡ 0) × (d ≡ 16 * ((c + 2) / 3))
+of-curves d c k p q = (omega (arith, p), omega (arith, p, q))
+
+module _ (cs ds : List ℕ) where
+  pub sums-uneven : (length ds % 16 ≡ 0 → ⊥) → false ≡ eqb (3 * length ds) (16 * length cs)
+  sums-uneven h = sym (ne-eqb (3 * length ds) (16 * length cs) (λ e. curves-of (length ds) (length cs) ⊥ e (λ k p q. h (of-curves (length ds) (length cs) k p q .0))))
+
+  pub sums-told : length ds % 16 ≡ 0 → eqb (length ds / 16 * 3) (length cs) ≡ eqb (3 * length ds) (16 * length cs)
+  sums-told h = bool-eq _ _
+      (λ e. eq-eqb (3 * length ds) (16 * length cs) (omega (arith, eqb-true (length ds / 16 * 3) (length cs) e)))
+      (λ e. eq-eqb (length ds / 16 * 3) (length cs) (omega (arith, eqb-true (3 * length ds) (16 * length cs) e)))
+
+  all-sums : sum (sumSizes (curvesOf cs)) ≡ 16 * ((length cs + 2) / 3)
+  all-sums = sum-bytes (curvesOf cs) ∙ ap (16 *_) (sym (curve-count cs))
+
+  -- a sum for each curve: three numbers and 16 bytes, where no record is cut off
+  sums-exact : 3 * length ds ≡ 16 * length cs → length ds ≡ sum (sumSizes (curvesOf cs))
+  sums-exact e = curves-of (length ds) (length cs) (length ds ≡ sum (sumSizes (curvesOf cs))) e (λ k p q. of-curves (length ds) (length cs) k p q .1 ∙ sym all-sums)
+
+  sums-enough : usableCurves (curvesOf cs) ≡ true → length ds ≡ sum (sumSizes (curvesOf cs)) → eqb (3 * length ds) (16 * length cs) ≡ true
+  sums-enough u e = by (ℕ-discrete (length cs % 3) 0)
+    where
+      by : Dec (length cs % 3 ≡ 0) → eqb (3 * length ds) (16 * length cs) ≡ true
+      by (yes k) = eq-eqb (3 * length ds) (16 * length cs) (omega (arith, e, all-sums))
+      by (no k) = absurd (false≢true (sym (cut-off cs k) ∙ u))
 
 -- what is lent is unusable where one of its parts is, and usable where all are
 module _ (r : Records) (cs fs vs bs ds : List ℕ) (g : Groups) where
@@ -55,15 +85,8 @@ module _ (r : Records) (cs fs vs bs ds : List ℕ) (g : Groups) where
   pub board-blocks : (d : Total) → d ≡ curvesTotal (curvesOf cs) → not (d .usable) ≡ false → (d .bytes ≡ length bs → ⊥) → false ≡ whole
   board-blocks d e h n = refused (λ s. n (curve-total d e h ∙ sym (s .blocks)))
 
-  -- the sums' test goes by the number of curves, which are few where they are usable
-  pub few-sums : (d : Total) (n : ℕ) → d ≡ curvesTotal (curvesOf cs) → not (d .usable) ≡ false → n ≡ length (curvesOf cs) → Fits w64 (16 * n)
-  few-sums d n e h q = record { fits = omega (arith, curves-most (curvesOf cs) (sym (total-usable _ _ d e) ∙ not-false _ h)) }
-
-  all-sums : (n : ℕ) → n ≡ length (curvesOf cs) → 16 * n ≡ sum (sumSizes (curvesOf cs))
-  all-sums n q = ap (16 *_) q ∙ sym (sum-bytes (curvesOf cs))
-
-  pub board-sums : (n : ℕ) → n ≡ length (curvesOf cs) → (16 * n ≡ length ds → ⊥) → false ≡ whole
-  board-sums n q h = refused (λ s. h (all-sums n q ∙ sym (s .sums)))
+  pub board-sums : (b : Bool) → b ≡ eqb (3 * length ds) (16 * length cs) → not b ≡ true → false ≡ whole
+  board-sums b e h = refused (λ s. unless b _ e h (sums-enough cs ds (s .curves) (s .sums)))
 
   pub board-functions : (b : Bool) → b ≡ usableFunctions (functionsOf fs) → not b ≡ true → false ≡ whole
   board-functions b e h = refused (λ s. unless _ _ e h (s .functions))
@@ -80,8 +103,8 @@ module _ (r : Records) (cs fs vs bs ds : List ℕ) (g : Groups) where
   last true so never = sym (sound-usable table lending (so refl))
   last false so never = refused (never refl)
 
-  module _ (d : Total) (n : ℕ) (a b : Bool) (ed : d ≡ curvesTotal (curvesOf cs)) (hd : not (d .usable) ≡ false) (vd : d .bytes ≡ length bs)
-      (en : n ≡ length (curvesOf cs)) (vn : 16 * n ≡ length ds)
+  module _ (d : Total) (a b m : Bool) (ed : d ≡ curvesTotal (curvesOf cs)) (hd : not (d .usable) ≡ false) (vd : d .bytes ≡ length bs)
+      (em : m ≡ eqb (3 * length ds) (16 * length cs)) (hm : not m ≡ false)
       (ea : a ≡ usableFunctions (functionsOf fs)) (eb : b ≡ usableGroups (r .count) (groupsOf g)) where
     sound : usableVariables (recordsOf r) ≡ true → length vs ≡ sum (sizesOf (recordsOf r)) → a ≡ true → b ≡ true → Sound table lending
     sound hv vv ha hb = record {
@@ -89,7 +112,7 @@ module _ (r : Records) (cs fs vs bs ds : List ℕ) (g : Groups) where
       values = vv;
       curves = sym (total-usable _ _ d ed) ∙ not-false _ hd;
       blocks = sym vd ∙ curve-total d ed hd;
-      sums = sym vn ∙ all-sums n en;
+      sums = sums-exact cs ds (eqb-true (3 * length ds) (16 * length cs) (sym em ∙ not-false m hm));
       functions = sym ea ∙ ha;
       groups = sym (counted b eb) ∙ hb;
     }

@@ -2,8 +2,9 @@
 use bsmp::Variable;
 ghost use mathlib.Core.Path.{_≡_};
 ghost use mathlib.Core.Bool.{_&&_};
-ghost use Prim.Native.Nat.{_+_, _-_, _%_, _≤_};
+ghost use Prim.Native.Nat.{_+_, _-_, _*_, _%_, _≤_};
 ghost use lib.Dec.{eqb};
+ghost use lib.ListN.{length};
 ghost use Rattle.bsmp.specs.Base.{sum};
 ghost use Rattle.bsmp.specs.Store.{held};
 ghost use Rattle.bsmp.specs.Board.{sizesOf, usableVariables, layout, usable};
@@ -102,6 +103,16 @@ fn quick_variables(
     bytes == stored
 }
 
+// Whether there are 16 bytes of sums for each three numbers of curve records.
+fn each_summed(curves: &[u32], sums: &[u8]) -> bool
+    ensures { λ r. ⌜ r ≡ eqb (3 * length (now (sums .entry))) (16 * length (now (curves .entry))) ⌝ }
+{
+    if sums.len() % 16 != 0 {
+        return false;
+    }
+    sums.len() / 16 * 3 == curves.len()
+}
+
 // Every rule, one after another.
 pub fn usable_board(
     count: usize,
@@ -121,6 +132,9 @@ pub fn usable_board(
         let groups = groupsOf (groupsBy made (now (sets .entry))) in
         ⌜ r ≡ usable t (held (layout t) (lent (now (values .entry)) (now (blocks .entry)) (now (sums .entry)) groups)) ⌝ }
 {
+    if !each_summed(curves, sums) {
+        return false;
+    }
     let variables_total = rules::usable_records(count, writable, sizes, kinds);
     if !variables_total.usable {
         return false;
@@ -133,9 +147,6 @@ pub fn usable_board(
         return false;
     }
     if curves_total.bytes as usize != blocks.len() {
-        return false;
-    }
-    if 16 * records::curve_count(curves) != sums.len() {
         return false;
     }
     if !rules::usable_functions(functions) {
@@ -163,6 +174,9 @@ pub fn quick_board(
         let groups = groupsOf (groupsBy made (now (sets .entry))) in
         ⌜ r ≡ usable t (held (layout t) (lent (now (values .entry)) (now (blocks .entry)) (now (sums .entry)) groups)) ⌝ }
 {
+    if !each_summed(curves, sums) {
+        return false;
+    }
     if !quick_variables(count, writable, sizes, kinds, values.len()) {
         return false;
     }
@@ -171,9 +185,6 @@ pub fn quick_board(
         return false;
     }
     if curves_total.bytes as usize != blocks.len() {
-        return false;
-    }
-    if 16 * records::curve_count(curves) != sums.len() {
         return false;
     }
     if !rules::usable_groups(made, sets, count) {

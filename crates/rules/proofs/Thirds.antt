@@ -34,7 +34,7 @@ module _ (ns : List ℕ) where
   curves-over h = curves-many (curvesOf ns) ((length ns + 2) / 3) (curve-count ns) (omega arith)
 
   -- a record that is cut off
-  cut-off : (length ns % 3 ≡ 0 → ⊥) → usableCurves (curvesOf ns) ≡ false
+  pub cut-off : (length ns % 3 ≡ 0 → ⊥) → usableCurves (curvesOf ns) ≡ false
   cut-off h =
       let k : length ns / 3 < length (curvesOf ns) = omega (arith, curve-count ns) in
       curves-broken (curvesOf ns) (not-so (every usableCurve (curvesOf ns)) (λ u. bad (every-at usableCurve (curvesOf ns) (length ns / 3) blankCurve u k)))

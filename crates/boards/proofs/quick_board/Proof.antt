@@ -1,6 +1,6 @@
 -- `quick_board` meets its contract. Assumes nothing.
 use borrow.Author.Needs.{needs}
-use Rattle.boards.proofs.Whole.{board-own, board-curves, board-blocks, few-sums, board-sums, board-groups, board-quick}
+use Rattle.boards.proofs.Whole.{board-own, board-curves, board-blocks, board-sums, board-groups, board-quick}
 use Rattle.boards.proofs.quick_board.Statement.{statement}
 use Rattle.boards.proofs.quick_board.Tie as tie
 
@@ -9,14 +9,13 @@ quick-board-spec =
     tie.close
     (tie.spec
     (λ c κs. search needs)
+    (λ c. search (board-sums, needs))
+    (λ c κs. search needs)
     (λ c. search (board-own, needs))
     (λ c κs. search needs)
     (λ c. search (board-curves, needs))
     (λ c. search needs)
     (λ c. search (board-blocks, needs))
-    (λ c κs. search needs)
-    (λ c. search (few-sums, needs))
-    (λ c. search (board-sums, needs))
     (λ c κs. search needs)
     (λ c. search (board-groups, needs))
     (λ c κs. search needs)
