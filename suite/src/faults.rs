@@ -314,7 +314,8 @@ fn of_stores(faults: &mut Vec<Fault>) {
     of_sums(faults);
 }
 
-// The sums are of a whole number of curves, but of too few or too many; or what one store lacks is too much in the other.
+// The sums are of a whole number of curves, but of too few or too many, or half a sum too many; or what one store lacks is too much in the
+// other.
 fn of_sums(faults: &mut Vec<Fault>) {
     const TWO: [Curve; 2] = [Curve::writable(4, 2), Curve::read_only(2, 8)];
     let fewer = |lent: &mut Lent| lent.sums.truncate(SUM_SIZE);
@@ -322,6 +323,13 @@ fn of_sums(faults: &mut Vec<Fault>) {
     let more = |lent: &mut Lent| lent.sums.extend([0; SUM_SIZE]);
     add(faults, "three sums for two curves", with_curves(&TWO), more);
     add(faults, "a sum without curves", with_curves(&[]), more);
+    let half = |lent: &mut Lent| lent.sums.extend([0; SUM_SIZE / 2]);
+    add(
+        faults,
+        "two sums and a half for two curves",
+        with_curves(&TWO),
+        half,
+    );
     let moved = |lent: &mut Lent| lent.blocks.extend(lent.sums.split_off(SUM_SIZE));
     add(faults, "a sum among the blocks", with_curves(&TWO), moved);
 }
