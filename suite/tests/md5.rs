@@ -40,12 +40,12 @@ fn lengths(random: &mut Random) -> Vec<usize> {
     for edge in [55, 63, 119, 127, 4095, MOST - 9] {
         lengths.extend((edge - 1..=edge + 2).chain(edge - 1..=edge + 2));
     }
-    lengths.extend((0..60).map(|_| random.below(MOST + 1)));
+    lengths.extend((0..300).map(|_| random.below(MOST + 1)));
     lengths.extend([MOST - 1, MOST, MOST]);
     lengths
 }
 
-// Random bytes, and of some lengths all zeros and all ones.
+// Random bytes; and of some lengths bytes that could pass for what is appended, zeros and the bit 1, or for none.
 fn messages(random: &mut Random) -> Vec<Vec<u8>> {
     let mut messages: Vec<Vec<u8>> = SUITE
         .iter()
@@ -54,8 +54,8 @@ fn messages(random: &mut Random) -> Vec<Vec<u8>> {
     for length in lengths(random) {
         messages.push(random.bytes(length));
     }
-    for length in [1, 55, 56, 64, 119, 128, MOST] {
-        messages.extend([vec![0; length], vec![0xFF; length]]);
+    for length in [1, 55, 56, 63, 64, 119, 120, 128, MOST] {
+        messages.extend([0x00, 0x80, 0xFF].map(|byte| vec![byte; length]));
     }
     messages
 }
@@ -97,6 +97,22 @@ fn three_opinions_agree() {
     for (message, sum) in messages.iter().zip(third) {
         let opinions = [md5(message), second::md5(message)].map(printed);
         assert_eq!(opinions, [sum.clone(), sum], "{} bytes", message.len());
+    }
+}
+
+#[test]
+fn a_single_bit_changes_the_sum_and_where_the_message_stands_does_not() {
+    let mut message = Random::new(1323).bytes(200);
+    let sum = md5(&message);
+    for bit in 0..8 * message.len() {
+        message[bit / 8] ^= 1 << (bit % 8);
+        assert_ne!(md5(&message), sum, "bit {}", bit);
+        message[bit / 8] ^= 1 << (bit % 8);
+    }
+    for before in 0..64 {
+        let longer = [vec![0xA5; before], message.clone(), vec![0xA5; 64]].concat();
+        let part = &longer[before..before + message.len()];
+        assert_eq!([md5(part), second::md5(part)], [sum, sum]);
     }
 }
 

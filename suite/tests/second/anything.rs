@@ -1,6 +1,6 @@
 //! Drawn at random: absurd tables, and any packet at all.
-use crate::bench::{commands, variable, wire, Bench};
-use suite::packets::OPERATIONS;
+use crate::bench::{variable, wire, Bench};
+use suite::packets::{COMMANDS, OPERATIONS};
 use suite::random::Random;
 use suite::second::{read_signed, write_unsigned, Outcome};
 
@@ -41,11 +41,10 @@ fn any_packet_keeps_the_board_usable_and_an_error_changes_no_byte() {
     let mut random = Random::new(72);
     let records = [variable(1, 1, 0), variable(0, 2, 1), variable(1, 2, 4)];
     let mut bench = Bench::with(&records, &[1, 2, 3, 0, 1, 2], &[0, 0, 1, 1]);
-    let commands = commands();
     for _ in 0..50_000 {
         let before = bench.state();
         bench.busy = random.number() & random.number() & 0b111;
-        let command = random.choose(&commands);
+        let command = random.choose(&COMMANDS);
         let mut payload = small_bytes(&mut random, 7, 4);
         if matches!(command, 0x24 | 0x26) && payload.len() > 1 {
             payload[1] = random.choose(&OPERATIONS);

@@ -1,15 +1,10 @@
 //! A board with the second node's entries over it, and what every call must keep to.
-use suite::packets::{self, message, packet};
+use suite::packets::{message, packet};
 use suite::second::{self, Address, Groups, Outcome, Ran, Table, Variable};
 use suite::whatif::bytes::bytes;
 
 pub const REPLY: usize = 4104;
 pub const UNTOUCHED: u8 = 0xA5;
-
-/// 01's command codes, and the two of 2026-02.
-pub fn commands() -> Vec<u8> {
-    [&packets::COMMANDS[..], &[0x0A, 0x42]].concat()
-}
 
 pub fn variable(writable: u8, size: u8, kind: u8) -> Variable {
     Variable {

@@ -1,12 +1,11 @@
 //! The commands: their codes, operations, lists and blocks.
-use crate::bench::{commands, variable, Bench};
-use suite::packets::OPERATIONS;
+use crate::bench::{variable, Bench};
+use suite::packets::{COMMANDS, OPERATIONS};
 
 #[test]
 fn the_command_codes_are_these_and_no_others_the_rest_get_e2() {
-    let commands = commands();
     for command in 0..=255u8 {
-        if !commands.contains(&command) {
+        if !COMMANDS.contains(&command) {
             assert_eq!(Bench::a().error(command, &[]), 0xE2, "{:02X}", command);
             assert_eq!(Bench::a().error(command, &[0; 99]), 0xE2);
         }

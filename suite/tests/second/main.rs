@@ -8,7 +8,6 @@ mod error_order;
 mod functions;
 mod groups;
 mod limits;
-mod md5;
 mod old_errors;
 mod packets;
 mod stores_and_readings;
