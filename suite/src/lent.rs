@@ -1,7 +1,8 @@
 //! What a board lends, and the proved node's entries over it.
 use crate::packets::packet;
 use cruachvel::{
-    md5, Address, FunctionNumber, Groups, Outcome, Ran, Refusal, Table, Variable, VariableNumber,
+    md5, Address, Curve, FunctionNumber, Groups, Outcome, Ran, Refusal, Table, Variable,
+    VariableNumber,
 };
 use cruachvel::{MOST_CURVE_BYTES, MOST_PACKET, SUM_SIZE};
 use std::ops::Range;
@@ -32,6 +33,25 @@ struct Parts<'a> {
 pub const MOST_LENT: usize = MOST_CURVE_BYTES + 4096;
 
 impl Lent {
+    /// A board with these records, at address 1: no group is made, and every byte of stores and sums is 0.
+    pub fn declared(variables: Vec<Variable>, curves: &[Curve], functions: &[u8]) -> Lent {
+        let mut lent = Lent {
+            variables,
+            curves: Curve::numbers(curves).to_vec(),
+            functions: functions.to_vec(),
+            groups: Groups::NONE,
+            address: Address {
+                own: 1,
+                multicast: 0x01,
+            },
+            values: Vec::new(),
+            blocks: Vec::new(),
+            sums: Vec::new(),
+        };
+        lent.refit();
+        lent
+    }
+
     pub fn table(&self) -> Table<'_> {
         Table {
             variables: &self.variables,

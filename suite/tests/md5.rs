@@ -1,6 +1,6 @@
 //! MD5 by three opinions: the library's, the second node's and md5sum's, on RFC 1321's suite and on messages of all lengths that its padding
 //! tells apart; and the sum that 42 gives a curve, which is the library's MD5 of the curve's bytes.
-use cruachvel::{md5, Address, Curve, Groups, Kind, Variable, SUM_SIZE};
+use cruachvel::{md5, Curve, Kind, Variable, SUM_SIZE};
 use std::fs;
 use std::process::Command;
 use suite::lent::Lent;
@@ -124,20 +124,8 @@ fn board(bytes: &[u8], block_size: usize) -> Lent {
         Curve::read_only(block_size as u32, blocks as u32),
     ];
     let first = usize::from(bytes.len() + 3 > MOST);
-    let mut lent = Lent {
-        variables: vec![Variable::writable(1, Kind::Plain)],
-        curves: Curve::numbers(&curves[first..]).to_vec(),
-        functions: Vec::new(),
-        groups: Groups::NONE,
-        address: Address {
-            own: 1,
-            multicast: 0x01,
-        },
-        values: Vec::new(),
-        blocks: Vec::new(),
-        sums: Vec::new(),
-    };
-    lent.refit();
+    let variables = vec![Variable::writable(1, Kind::Plain)];
+    let mut lent = Lent::declared(variables, &curves[first..], &[]);
     let start = lent.blocks.len() - bytes.len();
     lent.blocks[..start].fill(0xEE);
     lent.blocks[start..].copy_from_slice(bytes);

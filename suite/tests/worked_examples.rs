@@ -1,6 +1,6 @@
 //! The worked examples of source document 001 (BSMP 2.20), each on a board made for it. The numbers in the names are 001's sections.
 //! Messages are given as 001 prints them, header and payload; where 01 departs from 001, a comment says so.
-use cruachvel::{Address, Curve, Groups, Kind, Outcome, Ran, Variable};
+use cruachvel::{Curve, Kind, Outcome, Ran, Variable};
 use suite::lent::Lent;
 use suite::packets::packet;
 
@@ -11,20 +11,8 @@ fn board(variables: &[(u8, u8)], curves: &[Curve], functions: &[u8]) -> Lent {
         size,
         kind: Kind::Plain.number(),
     };
-    let lent = Lent {
-        variables: variables.iter().map(variable).collect(),
-        curves: Curve::numbers(curves).to_vec(),
-        functions: functions.to_vec(),
-        groups: Groups::NONE,
-        address: Address {
-            own: 1,
-            multicast: 0x01,
-        },
-        values: Vec::new(),
-        blocks: Vec::new(),
-        sums: Vec::new(),
-    };
-    lent.fresh()
+    let variables = variables.iter().map(variable).collect();
+    Lent::declared(variables, curves, functions).fresh()
 }
 
 const OK: [u8; 3] = [0xE0, 0x00, 0x00];

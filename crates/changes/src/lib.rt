@@ -32,7 +32,7 @@ fn removal(groups: &[u64]) -> Regroup
 }
 
 // The variable named first is changed by the bytes behind the front; the made groups stay.
-fn change_variable(
+fn change_one(
     sizes: &[u8],
     values: &mut [u8],
     op: Operation,
@@ -71,21 +71,19 @@ pub fn change(
         ⌜ ChangedBy l x (line l (x .groups) (now (payload .entry)) command .change) r y ⌝ }
 {
     match command {
-        Command::WriteVariable => change_variable(sizes, values, Operation::Replace, payload, 1),
+        Command::WriteVariable => change_one(sizes, values, Operation::Replace, payload, 1),
         Command::WriteGroup => {
             let op = Operation::Replace;
             groups::change(sizes, writable, groups, values, op, payload, 1);
             Regroup::Keep
         }
-        Command::MaskVariable => {
-            change_variable(sizes, values, Operation::of(payload[1]), payload, 2)
-        }
+        Command::MaskVariable => change_one(sizes, values, Operation::of(payload[1]), payload, 2),
         Command::MaskGroup => {
             let op = Operation::of(payload[1]);
             groups::change(sizes, writable, groups, values, op, payload, 2);
             Regroup::Keep
         }
-        Command::WriteRead => change_variable(sizes, values, Operation::Replace, payload, 2),
+        Command::WriteRead => change_one(sizes, values, Operation::Replace, payload, 2),
         Command::MakeGroup => Regroup::Make(sets::set_of(payload)),
         Command::RemoveGroups => removal(groups),
         Command::WriteBlock => {
