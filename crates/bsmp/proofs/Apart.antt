@@ -10,12 +10,13 @@ use lib.ListN.{length, take, drop, set, getD, length-append}
 use borrow.Author.Tests.{eqb-true, eqb-false}
 use Rattle.bsmp.specs.Base.{some, first, Test, join, upFrom}
 use Rattle.md5.specs.Md5.{digest}
-use Rattle.bsmp.specs.Board.{variable, curve, Table, Layout, layout, State, valueOf, curveOf, blockPlace, fresh, isSame, usable, faults}
+use Rattle.bsmp.specs.Board.{variable, curve, Table, Layout, layout, State, valueOf, blockSizes, curveOf, blockPlace, contentOf, contentsOf, fullLengths, full, fresh, isSame, usable, faults}
 use Rattle.bsmp.specs.Message.{Change, nothing, edit, fill, renew, regroup, Answer, say, tell, show, attest, call, Line, changed, edited, filled, after, valuesOf, replies, spoken, said, stateAfter, carried, handled, asked, judge}
 use Rattle.bsmp.specs.Packet.{Place, Ending, reply, silence, Result, frame, ends, ended, served, refuse, isOwn, destination, message}
 use Rattle.bsmp.specs.Packet.{placeTests, packetTests, packet, Ran, ranSays, resultTests, functionResult, storeTests, boardStore, freshBoard}
 use Rattle.bsmp.specs.Apart.{Alike, Event, arrives, returns, stores, freshens, happen, tells, readBy, readsIn, reads, answerOf, Apart, endings, later, unread}
 use Rattle.bsmp.specs.declared.VariableNumber.{VariableNumber}
+use Rattle.bsmp.specs.declared.CurveNumber.{CurveNumber}
 use Rattle.bsmp.specs.declared.FunctionNumber.{FunctionNumber}
 use Rattle.bsmp.specs.declared.Operation.{Operation}
 use Rattle.bsmp.specs.declared.Operation.the-variants.{Replace}
@@ -36,7 +37,7 @@ same-number i v h = ap variable (eqb-true (v .0) (i .0) h)
 -- lists of values that differ at most at v
 record Near (v : VariableNumber) (xs ys : List (List ℕ)) : Type 0 where
   others : (i : VariableNumber) → i ≢ v → getD xs (i .0) [] ≡ getD ys (i .0) []
-  lengths : map length xs ≡ map length ys
+  sizes : map length xs ≡ map length ys
 
 length-changed : (op : Operation) (x y p : List ℕ) → length x ≡ length y → length (changed op x p) ≡ length (changed op y p)
 unfolding changed
@@ -51,44 +52,73 @@ edited-near : (v : VariableNumber) (op : Operation) (is : List VariableNumber) (
 edited-near v op [] ps xs ys h = h
 edited-near v op (i ∷ is) [] xs ys h = h
 edited-near v op (i ∷ is) (p ∷ ps) xs ys h = edited-near v op is ps _ _ record {
-  others = λ j n. set-at xs ys (i .0) (j .0) _ _ [] (count-same xs ys (h .lengths))
+  others = λ j n. set-at xs ys (i .0) (j .0) _ _ [] (count-same xs ys (h .sizes))
       (λ e. ap (λ x. changed op x p) (h .others i (λ q. n (ap variable e ∙ q)))) (h .others j n);
-  lengths = map-set length xs (i .0) _
-      ∙ ap₂ (λ l n. set l (i .0) n) (h .lengths) (length-changed op (getD xs (i .0) []) (getD ys (i .0) []) p (length-at xs ys (h .lengths) (i .0)))
+  sizes = map-set length xs (i .0) _
+      ∙ ap₂ (λ l n. set l (i .0) n) (h .sizes) (length-changed op (getD xs (i .0) []) (getD ys (i .0) []) p (length-at xs ys (h .sizes) (i .0)))
       ∙ sym (map-set length ys (i .0) _);
 }
+
+-- what blocks hold goes by the blocks and their lengths alone
+content-same : (v : VariableNumber) (s₁ s₂ : State) → Alike v s₁ s₂ → (k : ℕ) → contentOf s₁ k ≡ contentOf s₂ k
+content-same v s₁ s₂ h k = ap₂ (λ ns bs. take (getD ns k 0) (getD bs k [])) (h .lengths) (h .blocks)
+
+contents-same : (v : VariableNumber) (s₁ s₂ : State) → Alike v s₁ s₂ → (k n : ℕ) → contentsOf s₁ k n ≡ contentsOf s₂ k n
+contents-same v s₁ s₂ h k n = ap (λ f. join (map f (upFrom k n))) (fun-ext (content-same v s₁ s₂ h))
 
 after-alike : (v : VariableNumber) (ch : Change) (s₁ s₂ : State) → Alike v s₁ s₂ → Alike v (after ch s₁) (after ch s₂)
 unfolding after
 after-alike v nothing s₁ s₂ h = h
 after-alike v (edit op is ps) s₁ s₂ h =
     let n : Near v (edited op is ps (s₁ .values)) (edited op is ps (s₂ .values)) =
-    edited-near v op is ps _ _ record { others = h .others; lengths = h .lengths } in
-    record { others = n .others; lengths = n .lengths; blocks = h .blocks; sums = h .sums; groups = h .groups }
+    edited-near v op is ps _ _ record { others = h .others; sizes = h .sizes } in
+    record { others = n .others; sizes = n .sizes; blocks = h .blocks; lengths = h .lengths; sums = h .sums; groups = h .groups }
 after-alike v (fill k d) s₁ s₂ h =
-    record { others = h .others; lengths = h .lengths; blocks = ap (λ l. set l k (filled d (getD l k []))) (h .blocks); sums = h .sums; groups = h .groups }
+    record {
+      others = h .others;
+      sizes = h .sizes;
+      blocks = ap (λ l. set l k (filled d (getD l k []))) (h .blocks);
+      lengths = ap (λ ns. set ns k (length d)) (h .lengths);
+      sums = h .sums;
+      groups = h .groups;
+    }
 after-alike v (renew c k n) s₁ s₂ h = record {
   others = h .others;
-  lengths = h .lengths;
+  sizes = h .sizes;
   blocks = h .blocks;
-  sums = ap₂ (λ ds bs. set ds (c .0) (digest (join (take n (drop k bs))))) (h .sums) (h .blocks);
+  lengths = h .lengths;
+  sums = ap₂ (λ ds m. set ds (c .0) (digest m)) (h .sums) (contents-same v s₁ s₂ h k n);
   groups = h .groups;
 }
-after-alike v (regroup gs) s₁ s₂ h = record { others = h .others; lengths = h .lengths; blocks = h .blocks; sums = h .sums; groups = refl }
+after-alike v (regroup gs) s₁ s₂ h = record { others = h .others; sizes = h .sizes; blocks = h .blocks; lengths = h .lengths; sums = h .sums; groups = refl }
 
 -- the sums of a fresh board go by its blocks alone
-fresh-alike : (v : VariableNumber) (l : Layout) (s₁ s₂ : State) → Alike v s₁ s₂ → Alike v (fresh l s₁) (fresh l s₂)
-unfolding fresh
-fresh-alike v l s₁ s₂ h = record {
+full-alike : (v : VariableNumber) (l : Layout) (s₁ s₂ : State) → Alike v s₁ s₂ → Alike v (full l s₁) (full l s₂)
+full-alike v l s₁ s₂ h = record {
   others = h .others;
-  lengths = h .lengths;
+  sizes = h .sizes;
   blocks = h .blocks;
-  sums = ap (λ bs. map (λ c. digest (join (take (curveOf l (curve c) .blocks) (drop (blockPlace l (curve c) 0) bs)))) (upFrom 0 (length (l .curves)))) (h .blocks);
+  lengths = ap (fullLengths (blockSizes (l .curves))) (h .lengths);
+  sums = h .sums;
   groups = h .groups;
 }
 
+fresh-alike : (v : VariableNumber) (l : Layout) (s₁ s₂ : State) → Alike v s₁ s₂ → Alike v (fresh l s₁) (fresh l s₂)
+unfolding fresh
+fresh-alike v l s₁ s₂ h =
+    let f = full-alike v l s₁ s₂ h in
+    record {
+      others = f .others;
+      sizes = f .sizes;
+      blocks = f .blocks;
+      lengths = f .lengths;
+      sums = ap (λ (g : CurveNumber → List ℕ). map (λ c. digest (g (curve c))) (upFrom 0 (length (l .curves))))
+          (fun-ext (λ c. contents-same v _ _ f (blockPlace l c 0) (curveOf l c .blocks)));
+      groups = f .groups;
+    }
+
 pub usable-alike : (t : Table) (v : VariableNumber) (s₁ s₂ : State) → Alike v s₁ s₂ → usable t s₁ ≡ usable t s₂
-usable-alike t v s₁ s₂ h = usable-by t s₁ s₂ (h .lengths) (ap (map length) (h .blocks)) (ap (map length) (h .sums)) (h .groups)
+usable-alike t v s₁ s₂ h = usable-by t s₁ s₂ (h .sizes) (ap (map length) (h .blocks)) (h .lengths) (ap (map length) (h .sums)) (h .groups)
 
 pub faults-alike : (t : Table) (v : VariableNumber) (s₁ s₂ : State) → Alike v s₁ s₂ → faults t s₁ ≡ faults t s₂
 faults-alike t v s₁ s₂ h = faults-by t s₁ s₂ (usable-alike t v s₁ s₂ h)
@@ -110,14 +140,14 @@ module _ (v : VariableNumber) (s₁ s₂ : State) (h : Alike v s₁ s₂) where
   told-length : (is : List VariableNumber) → length (valuesOf (s₁ .values) is) ≡ length (valuesOf (s₂ .values) is)
   unfolding valuesOf
   told-length [] = refl
-  told-length (i ∷ is) = simp length-append (ap₂ _+_ (length-at (s₁ .values) (s₂ .values) (h .lengths) (i .0)) (told-length is))
+  told-length (i ∷ is) = simp length-append (ap₂ _+_ (length-at (s₁ .values) (s₂ .values) (h .sizes) (i .0)) (told-length is))
 
   read-values : (is : List VariableNumber) → some (isSame v) is ≡ true → valuesOf (s₁ .values) is ≡ valuesOf (s₂ .values) is → valueOf s₁ v ≡ valueOf s₂ v
   unfolding valuesOf
   read-values [] e q = absurd (false≢true e)
   read-values (i ∷ is) e q =
       let b : (valueOf s₁ i ≡ valueOf s₂ i) × (valuesOf (s₁ .values) is ≡ valuesOf (s₂ .values) is) =
-      parts _ _ _ _ (length-at (s₁ .values) (s₂ .values) (h .lengths) (i .0)) q in
+      parts _ _ _ _ (length-at (s₁ .values) (s₂ .values) (h .sizes) (i .0)) q in
       ⊎-elim (λ r. subst (λ k. valueOf s₁ k ≡ valueOf s₂ k) (sym (same-number i v r)) (b .0)) (λ r. read-values is r (b .1)) (or-true _ _ e)
 
   everywhere : valueOf s₁ v ≡ valueOf s₂ v → (i : VariableNumber) → Dec (i .0 ≡ v .0) → valueOf s₁ i ≡ valueOf s₂ i
@@ -129,7 +159,7 @@ module _ (v : VariableNumber) (s₁ s₂ : State) (h : Alike v s₁ s₂) where
   spoken-same due (say c p) e = refl
   spoken-same true (tell c is) e = ap (λ p. reply (frame c p)) (unread-values is e)
   spoken-same false (tell c is) e = refl
-  spoken-same due (show c front k) e = ap (λ l. ends due (replies c (front ++ getD l k []))) (h .blocks)
+  spoken-same due (show c front k) e = ap (λ b. ends due (replies c (front ++ b))) (content-same v s₁ s₂ h k)
   spoken-same due (attest c n) e = ap (λ l. ends due (replies c (getD l (n .0) []))) (h .sums)
   spoken-same due (call f i) e = refl
 
@@ -222,7 +252,8 @@ store-apart t v i b s₁ s₂ h =
 fresh-apart : (t : Table) (v : VariableNumber) (s₁ s₂ : State) → Alike v s₁ s₂ → Apart v (freshBoard t s₁) (freshBoard t s₂) false
 unfolding freshBoard
 fresh-apart t v s₁ s₂ h =
-    rw (← faults-alike t v s₁ s₂ h) (first-quiet v (faults t s₁) s₁ s₂ _ _ h (quiet v silence _ _ (fresh-alike v (layout t) s₁ s₂ h)))
+    rw (← faults-alike t v _ _ (full-alike v (layout t) s₁ s₂ h))
+    (first-quiet v (faults t (full (layout t) s₁)) s₁ s₂ _ _ h (quiet v silence _ _ (fresh-alike v (layout t) s₁ s₂ h)))
 
 -- one event
 pub step : (t : Table) (a : Place) (v : VariableNumber) (e : Event) (s₁ s₂ : State) → Alike v s₁ s₂

@@ -4,7 +4,7 @@ use mathlib.Core.Bool.{Bool, true, false}
 use mathlib.Core.List.{List}
 use Prim.Native.Nat.{ℕ}
 use native.Mathlib.Omega.{arith}
-use Rattle.bsmp.specs.Board.{Table, Layout, layout, State, withValues, withSums, fresh, faults}
+use Rattle.bsmp.specs.Board.{Table, Layout, layout, State, withValues, withLengths, withSums, full, fresh, faults}
 use Rattle.bsmp.specs.Message.{Said, replies, runs, after, carried, stateAfter, handled, asked, judge}
 use Rattle.bsmp.specs.Packet.{Place, Ending, reply, silence, run, Result, refuse, Ran, ends, placeTests, packetTests, served, packet, resultTests, functionResult, storeTests, boardStore, freshBoard, isOwn, destination}
 use Rattle.bsmp.specs.Store.{Lent, held, lentOf, outcomeOf, shown}
@@ -52,7 +52,7 @@ refusal-keeps t a (stores i b) s r =
     (λ d. first-case (λ x. x .ending ≡ Ending.refused r → x .state ≡ s) (storeTests (layout t) i b) (refuse s) _ (λ m h. refl)
     (λ c h. absurd (silence-allowed r h)))
 refusal-keeps t a freshens s r =
-    first-case (λ x. x .ending ≡ Ending.refused r → x .state ≡ s) (faults t s) (refuse s) _ (λ m h. refl) (λ b h. absurd (silence-allowed r h))
+    first-case (λ x. x .ending ≡ Ending.refused r → x .state ≡ s) (faults t (full (layout t) s)) (refuse s) _ (λ m h. refl) (λ b h. absurd (silence-allowed r h))
 
 pub outcome-refused : (e : Ending) (r : Refusal) → outcomeOf e ≡ Refused r → e ≡ Ending.refused r
 outcome-refused (reply b) r h = cc
@@ -60,7 +60,7 @@ outcome-refused silence r h = cc
 outcome-refused (run f i due) r h = cc
 outcome-refused (Ending.refused m) r h = cc
 
--- a function's result changes nothing that the board holds, a board store the values alone, a fresh board the sums alone
+-- a function's result changes nothing that the board holds, a board store the values alone, a fresh board the lengths and the sums alone
 pub result-keeps : (t : Table) (room : ℕ) (f : FunctionNumber) (due : Bool) (r : Ran) (s : State) → functionResult t room f due r s .state ≡ s
 unfolding functionResult
 result-keeps t room f due r s =
@@ -73,9 +73,11 @@ store-keeps t i b s =
     let Kept : Result → Type 0 = λ x. x .state ≡ withValues s (x .state .values) in
     first-case Kept (faults t s) (refuse s) _ (λ m. refl) (λ d. first-case Kept (storeTests (layout t) i b) (refuse s) _ (λ m. refl) (λ c. refl))
 
-pub fresh-keeps : (t : Table) (s : State) → freshBoard t s .state ≡ withSums s (freshBoard t s .state .sums)
+pub fresh-keeps : (t : Table) (s : State) → freshBoard t s .state ≡ withSums (withLengths s (freshBoard t s .state .lengths)) (freshBoard t s .state .sums)
 unfolding freshBoard fresh
-fresh-keeps t s = first-case (λ x. x .state ≡ withSums s (x .state .sums)) (faults t s) (refuse s) _ (λ m. refl) (λ c. refl)
+fresh-keeps t s =
+    let Kept : Result → Type 0 = λ x. x .state ≡ withSums (withLengths s (x .state .lengths)) (x .state .sums) in
+    first-case Kept (faults t (full (layout t) s)) (refuse s) _ (λ m. refl) (λ c. refl)
 
 -- the same over what is lent: no byte of any store, group table or buffer, whatever their lengths
 pub refusal-keeps-lent : (t : Table) (a : Place) (c : Call) (x : Lent) (r : Refusal) → leftBy t a c x .outcome ≡ Refused r

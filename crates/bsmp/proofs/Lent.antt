@@ -55,8 +55,9 @@ module _ (t : Table) (v : VariableNumber) where
   pub alike-held : (x₁ x₂ : Lent) → usable t (held L x₁) ≡ true → usable t (held L x₂) ≡ true → LentAlike L v x₁ x₂ → Alike v (held L x₁) (held L x₂)
   alike-held x₁ x₂ u₁ u₂ h = record {
     others = λ i n. by i n (decLt (i .0) (length (L .sizes)));
-    lengths = values-kept x₁ u₁ ∙ sym (values-kept x₂ u₂);
+    sizes = values-kept x₁ u₁ ∙ sym (values-kept x₂ u₂);
     blocks = ap (cut (blockSizes (t .curves))) (h .blocks);
+    lengths = h .lengths;
     sums = ap (cut (sumSizes (t .curves))) (h .sums);
     groups = h .groups;
   }
@@ -71,8 +72,9 @@ module _ (t : Table) (v : VariableNumber) where
   pub held-alike : (x₁ x₂ : Lent) → Alike v (held L x₁) (held L x₂) → LentAlike L v x₁ x₂
   held-alike x₁ x₂ h = record {
     others = λ i k n. sym (value-in L x₁ i k) ∙ h .others i n ∙ value-in L x₂ i k;
-    lengths = sym (whole x₁) ∙ ap (λ l. sum l) (h .lengths) ∙ whole x₂;
+    size = sym (whole x₁) ∙ ap (λ l. sum l) (h .sizes) ∙ whole x₂;
     blocks = sym (join-cut (blockSizes (t .curves)) (x₁ .blocks)) ∙ ap join (h .blocks) ∙ join-cut (blockSizes (t .curves)) (x₂ .blocks);
+    lengths = h .lengths;
     sums = sym (join-cut (sumSizes (t .curves)) (x₁ .sums)) ∙ ap join (h .sums) ∙ join-cut (sumSizes (t .curves)) (x₂ .sums);
     groups = h .groups;
   }

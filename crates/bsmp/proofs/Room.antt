@@ -5,12 +5,12 @@ use mathlib.Core.List.{List, [], _∷_, _++_, map}
 use Prim.Native.Nat.{ℕ, zero, suc, _+_, _*_, _%_, _≤_, _<_}
 use native.Mathlib.Omega.{arith}
 use lib.Dec.{leb, lit≤}
-use lib.ListN.{length, drop, getD, length-append, length-map}
+use lib.ListN.{length, drop, getD, length-append, length-take, length-map}
 use borrow.Author.Tests.{leb-true, ltb-true, eqb-true, not-false}
 use Rattle.bsmp.specs.Base.{all, every, sum, join, upFrom, within, byteAt, wordAt}
 use Rattle.bsmp.specs.Codes.{errorCode, commandOf}
-use Rattle.bsmp.specs.Board.{variable, group, curve, Table, Layout, layout, State, valueOf, blockOf, sumOf, inGroup, sizesOf, sizeOf, variables, members, blankCurve, blankFunction, curveOf, blockPlace, functionOf}
-use Rattle.bsmp.specs.Board.{variableRules, usableCurve, curveRules, usable, faults, usableVariables, usableCurves, usableFunctions, usableGroups}
+use Rattle.bsmp.specs.Board.{variable, group, curve, Table, Layout, layout, State, valueOf, blockOf, contentOf, sumOf, inGroup, sizesOf, sizeOf, variables, members, blankCurve, blankFunction, curveOf, blockPlace, functionOf}
+use Rattle.bsmp.specs.Board.{variableRules, usableCurve, curveRules, full, usable, faults, usableVariables, usableCurves, usableFunctions, usableGroups}
 use Rattle.bsmp.specs.Message.{Answer, say, tell, show, attest, call, variableList, groupList, curveRecord, curveList, functionList, Line, testsOf, line, messageOf, asked, after, valuesOf, replies, spoken, stateAfter, said, carried, handled}
 use Rattle.bsmp.specs.Packet.{Place, Ending, reply, silence, run, refuse, checksum, packed, frame, ends, placeTests, packetTests, served, packet, Ran, gave, failed, badOutput, ranSays, resultTests, functionResult, storeTests, boardStore, freshBoard, message}
 use Rattle.bsmp.specs.Apart.{Event, arrives, returns, stores, freshens, happen}
@@ -94,7 +94,7 @@ limits t s h =
 abbrev Small : Table → State → Answer → Type 0
 Small t s (say c p) = length p ≤ 4099
 Small t s (tell c is) = sum (map (sizeOf (layout t)) is) ≤ 4099
-Small t s (show c front k) = length front + length (blockOf s k) ≤ 4099
+Small t s (show c front k) = length front + length (contentOf s k) ≤ 4099
 Small t s (attest c n) = length (sumOf s n) ≤ 4099
 Small t s (call f i) = Unit {0}
 
@@ -143,7 +143,7 @@ module _ (t : Table) (s : State) (busy : ℕ) (p : List ℕ) (h : usable t s ≡
       let known : byteAt p 0 < length (t .curves) = ltb-true _ _ (not-false _ (at 1)) in
       let b : length (blockOf s (blockPlace (layout t) (curve (byteAt p 0)) (wordAt p 1))) ≡ curveOf (layout t) (curve (byteAt p 0)) .size =
       block-length t s (usable-parts t s h) (curve (byteAt p 0)) (wordAt p 1) known (ltb-true _ _ (not-false _ (at 2))) in
-      omega (arith, limits t s h .block (byteAt p 0) known)
+      simp length-take (omega (arith, limits t s h .block (byteAt p 0) known))
   line-small WriteBlock c = lit≤ tt
   line-small RenewSum c = lit≤ tt
   line-small RunFunction c = tt
@@ -181,7 +181,7 @@ spoken-well : (t : Table) (s : State) (due : Bool) (an : Answer) → Usable t s 
 unfolding spoken ends
 spoken-well t s due (say c p) u h = ends-well due c p h
 spoken-well t s due (tell c is) u h = ends-well due c (valuesOf (s .values) is) (rw (told-bytes t s u is) h)
-spoken-well t s due (show c front k) u h = ends-well due c (front ++ blockOf s k) (rw (length-append front (blockOf s k)) h)
+spoken-well t s due (show c front k) u h = ends-well due c (front ++ contentOf s k) (rw (length-append front (contentOf s k)) h)
 spoken-well t s due (attest c n) u h = ends-well due c (sumOf s n) h
 spoken-well t s due (call f i) u h = tt
 
@@ -221,4 +221,4 @@ well-sent t a (returns room f due r) s =
 well-sent t a (stores i b) s =
     first-case (λ x. WellSent (x .ending)) (faults t s) (refuse s) _ (λ n. tt)
     (λ c. first-case (λ x. WellSent (x .ending)) (storeTests (layout t) i b) (refuse s) _ (λ n. tt) (λ d. tt))
-well-sent t a freshens s = first-case (λ x. WellSent (x .ending)) (faults t s) (refuse s) _ (λ n. tt) (λ c. tt)
+well-sent t a freshens s = first-case (λ x. WellSent (x .ending)) (faults t (full (layout t) s)) (refuse s) _ (λ n. tt) (λ c. tt)

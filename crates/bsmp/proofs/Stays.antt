@@ -1,6 +1,6 @@
 -- A usable board stays usable after every event, and its flat stores hold it from call to call. Assumes nothing.
 use mathlib.Core.Path.{_≡_, refl, sym, ap, ap₂, _∙_}
-use mathlib.Core.Bool.{Bool, true, false, not, _&&_, true≢false}
+use mathlib.Core.Bool.{Bool, true, false, not, _&&_, true≢false, false≢true}
 use mathlib.Core.List.{List, [], _∷_, _++_, map, head-eq-of-cons-eq, tail-eq-of-cons-eq}
 use Prim.Native.Nat.{ℕ, zero, suc, _+_, _-_, _^_, _≤_, _<_}
 use native.Mathlib.Omega.{arith}
@@ -11,10 +11,10 @@ use lib.Seq.{set-getD, getD-append-add}
 use borrow.Author.Tests.{eq-eqb, eqb-true, leb-true, leb-false, ltb-true, not-false, le-leb, lt-ltb}
 use Rattle.md5.specs.Md5.{digest}
 use Rattle.md5.proofs.Digest.{length-digest}
-use Rattle.bsmp.specs.Base.{some, every, sum, join, cut, byteAt, wordAt, upFrom}
+use Rattle.bsmp.specs.Base.{some, every, sum, join, cut, within, byteAt, wordAt, upFrom}
 use Rattle.bsmp.specs.Codes.{commandOf}
 use Rattle.bsmp.specs.Board.{variable, curve, Table, Layout, layout, State, valueOf, blockOf, sizeOf, variables, isSame, groupBytes, setOf, blankCurve, curveOf, blockSizes, blockPlace}
-use Rattle.bsmp.specs.Board.{withValues, withBlocks, withSums, contentOf, sumOf, curveSum, sumSizes, fresh, usable, usableGroups, faults}
+use Rattle.bsmp.specs.Board.{withValues, withBlocks, withSums, contentsOf, sumOf, curveSum, sumSizes, fitting, full, fresh, usable, usableGroups, faults}
 use Rattle.bsmp.specs.Message.{Change, nothing, edit, fill, renew, regroup, writesVariable, writesGroup, Line, testsOf, line, asked, changed, edited, filled, after, stateAfter, carried, handled}
 use Rattle.bsmp.specs.Packet.{Place, refuse, placeTests, packetTests, served, packet, resultTests, functionResult, storeTests, boardStore, freshBoard, message}
 use Rattle.bsmp.specs.Store.{held, lentOf}
@@ -32,14 +32,14 @@ use Rattle.bsmp.proofs.Accepted.{judge-case}
 use Rattle.bsmp.proofs.Lists.{map-set, map-map, every-last, length-upFrom}
 use Rattle.bsmp.proofs.Chain.{clear, clear-at, broken-at, first-case}
 use Rattle.bsmp.proofs.Store.{cut-join, lengths-cut, sum-size}
-use Rattle.bsmp.proofs.Usable.{Usable, usable-parts, usable-by, usable-regrouped}
+use Rattle.bsmp.proofs.Usable.{Usable, usable-parts, usable-whole, usable-by, usable-regrouped, clear-usable}
 use Rattle.bsmp.proofs.Marks.{marks-below, marks-some, at-number}
 
 -- what a change must be to leave a usable board -----------------------------------------------------------------------------
 abbrev pub Fits : Table → State → Change → Type 0
 Fits t s nothing = Unit {0}
 Fits t s (edit op is ps) = map length ps ≡ map (sizeOf (layout t)) is
-Fits t s (fill k d) = length d ≤ length (blockOf s k)
+Fits t s (fill k d) = (1 ≤ length d) × (length d ≤ length (blockOf s k))
 Fits t s (renew c k n) = Unit {0}
 Fits t s (regroup gs) = usableGroups (length (t .variables)) gs ≡ true
 
@@ -75,24 +75,44 @@ each-sixteen : (f : ℕ → List ℕ) (i : ℕ) (cs : List Curve) → ((k : ℕ)
 each-sixteen f i [] h = refl
 each-sixteen f i (c ∷ cs) h = ap₂ _∷_ (h i) (each-sixteen f (suc i) cs h)
 
-pub fresh-usable : (t : Table) (s : State) → usable t s ≡ true → usable t (fresh (layout t) s) ≡ true
+-- a block's length set to one that fits it
+lengths-set : (ms ns : List ℕ) (k n : ℕ) → fitting ms ns ≡ true → 1 ≤ n → n ≤ getD ms k 0 → fitting ms (set ns k n) ≡ true
+lengths-set [] [] k n h a b = refl
+lengths-set [] (x ∷ ns) k n h a b = absurd (false≢true h)
+lengths-set (m ∷ ms) [] k n h a b = absurd (false≢true h)
+lengths-set (m ∷ ms) (x ∷ ns) zero n h a b = rw (le-leb 1 n a, le-leb n m b) (and-true (within 1 m x) _ h .1)
+lengths-set (m ∷ ms) (x ∷ ns) (suc k) n h a b =
+    let w : (within 1 m x ≡ true) × (fitting ms ns ≡ true) = and-true _ _ h in
+    rw (w .0) (lengths-set ms ns k n (w .1) a b)
+
+-- a fresh board is usable if it is with its blocks full, whatever its lengths and sums were
+pub fresh-usable : (t : Table) (s : State) → usable t (full (layout t) s) ≡ true → usable t (fresh (layout t) s) ≡ true
 unfolding fresh
 fresh-usable t s h =
-    usable-by t _ s refl refl
-    (each-sixteen (λ c. curveSum (layout t) s (curve c)) 0 (t .curves) (λ c. length-digest _) ∙ sym (usable-parts t s h .sums)) refl
+    usable-by t _ (full (layout t) s) refl refl refl
+    (each-sixteen (λ c. curveSum (layout t) (full (layout t) s) (curve c)) 0 (t .curves) (λ c. length-digest _) ∙ sym (usable-parts t _ h .sums)) refl
     ∙ h
 
 pub after-usable : (t : Table) (s : State) (ch : Change) → usable t s ≡ true → Fits t s ch → usable t (after ch s) ≡ true
 unfolding after
 after-usable t s nothing h k = h
-after-usable t s (edit op is ps) h k = usable-by t _ s (edited-lengths (layout t) op is ps (s .values) (usable-parts t s h .values) k) refl refl refl ∙ h
+after-usable t s (edit op is ps) h k = usable-by t _ s (edited-lengths (layout t) op is ps (s .values) (usable-parts t s h .values) k) refl refl refl refl ∙ h
 after-usable t s (fill i d) h k =
-    let one : length (filled d (blockOf s i)) ≡ length (blockOf s i) = simp (length-append, length-drop) (omega arith) in
-    usable-by t _ s refl
-    (map-set length (s .blocks) i _ ∙ ap (set (map length (s .blocks)) i) (one ∙ sym (List·getD-map length (s .blocks) i []))
-    ∙ set-getD (map length (s .blocks)) i 0) refl refl
-    ∙ h
-after-usable t s (renew c k n) h u = usable-by t _ s refl refl (sums-set t s c (contentOf s k n) (usable-parts t s h)) refl ∙ h
+    let u : Usable t s = usable-parts t s h in
+    let one : length (filled d (blockOf s i)) ≡ length (blockOf s i) = simp (length-append, length-drop) (omega (arith, k .1)) in
+    let size : length (blockOf s i) ≡ getD (blockSizes (t .curves)) i 0 = sym (List·getD-map length (s .blocks) i []) ∙ ap (λ ns. getD ns i 0) (u .blocks) in
+    usable-whole t _ record {
+      variables = u .variables;
+      values = u .values;
+      curves = u .curves;
+      blocks = map-set length (s .blocks) i _ ∙ ap (set (map length (s .blocks)) i) (one ∙ sym (List·getD-map length (s .blocks) i []))
+          ∙ set-getD (map length (s .blocks)) i 0 ∙ u .blocks;
+      lengths = lengths-set (blockSizes (t .curves)) (s .lengths) i (length d) (u .lengths) (k .0) (omega (arith, k .1));
+      sums = u .sums;
+      functions = u .functions;
+      groups = u .groups;
+    }
+after-usable t s (renew c k n) h u = usable-by t _ s refl refl refl (sums-set t s c (contentsOf s k n) (usable-parts t s h)) refl ∙ h
 after-usable t s (regroup gs) h k = usable-regrouped t s gs h k
 
 -- each command's change fits where its tests pass ---------------------------------------------------------------------------
@@ -186,9 +206,11 @@ module _ (t : Table) (s : State) (busy : ℕ) (p : List ℕ) (h : usable t s ≡
   line-fits ReadBlock c = tt
   line-fits WriteBlock c =
       let at : (j : ℕ) → broken-at (testsOf (row WriteBlock) busy) j ≡ false = clear-at (testsOf (row WriteBlock) busy) c in
-      let d : length (drop 3 p) ≤ curveOf (layout t) (curve (byteAt p 0)) .size =
-      rw length-drop (leb-true _ _ (and-true (leb 1 (length p - 3)) _ (not-false _ (at 3)) .1)) in
-      rw (block-length t s (usable-parts t s h) (curve (byteAt p 0)) (wordAt p 1) (ltb-true _ _ (not-false _ (at 1))) (ltb-true _ _ (not-false _ (at 2)))) d
+      let w = and-true (leb 1 (length p - 3)) _ (not-false _ (at 3)) in
+      let d : length (drop 3 p) ≤ curveOf (layout t) (curve (byteAt p 0)) .size = rw length-drop (leb-true _ _ (w .1)) in (
+        rw length-drop (leb-true _ _ (w .0)),
+        rw (block-length t s (usable-parts t s h) (curve (byteAt p 0)) (wordAt p 1) (ltb-true _ _ (not-false _ (at 1))) (ltb-true _ _ (not-false _ (at 2)))) d,
+      )
   line-fits RenewSum c = tt
   line-fits RunFunction c = tt
   line-fits Unknown c = tt
@@ -217,7 +239,8 @@ stays t a (stores i b) s h =
     first-case (λ x. usable t (x .state) ≡ true) (faults t s) (refuse s) _ (λ n. h)
     (λ c. first-case (λ x. usable t (x .state) ≡ true) (storeTests (layout t) i b) (refuse s) _ (λ n. h)
     (λ d. after-usable t s (edit Replace (i ∷ []) (b ∷ [])) h (ap (_∷ []) (eqb-true _ _ (not-false _ (clear-at (storeTests (layout t) i b) d 1))))))
-stays t a freshens s h = first-case (λ x. usable t (x .state) ≡ true) (faults t s) (refuse s) _ (λ n. h) (λ c. fresh-usable t s h)
+stays t a freshens s h =
+    first-case (λ x. usable t (x .state) ≡ true) (faults t (full (layout t) s)) (refuse s) _ (λ n. h) (λ c. fresh-usable t s (clear-usable t _ c))
 
 pub later-usable : (t : Table) (a : Place) (es : List Event) (s : State) → usable t s ≡ true → usable t (later t a es s) ≡ true
 later-usable t a [] s h = h
@@ -230,4 +253,4 @@ held-again t s h =
     let vs : cut (layout t .sizes) (join (s .values)) ≡ s .values = ap (λ ns. cut ns (join (s .values))) (sym (u .values)) ∙ cut-join (s .values) in
     let bs : cut (blockSizes (t .curves)) (join (s .blocks)) ≡ s .blocks = ap (λ ns. cut ns (join (s .blocks))) (sym (u .blocks)) ∙ cut-join (s .blocks) in
     let ds : cut (sumSizes (t .curves)) (join (s .sums)) ≡ s .sums = ap (λ ns. cut ns (join (s .sums))) (sym (u .sums)) ∙ cut-join (s .sums) in
-    λ i. record { values = vs i; blocks = bs i; sums = ds i; groups = s .groups }
+    λ i. record { values = vs i; blocks = bs i; lengths = s .lengths; sums = ds i; groups = s .groups }

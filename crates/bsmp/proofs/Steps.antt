@@ -8,7 +8,7 @@ use lib.IntN.{ℤ}
 use lib.ListN.{length, getD}
 use Rattle.bsmp.specs.Base.{Test, first, ascending}
 use Rattle.bsmp.specs.Codes.{errorCode, refusalNumber}
-use Rattle.bsmp.specs.Board.{Table, Layout, layout, State, fresh, faults}
+use Rattle.bsmp.specs.Board.{Table, Layout, layout, State, full, fresh, faults}
 use Rattle.bsmp.specs.Message.{line, testsOf, formTests, writesVariable, writesGroup, edit, after}
 use Rattle.bsmp.specs.Packet.{Place, silence, refuse, isOwn, destination, message, ends, placeTests, packetTests, served, packet, Ran, ranSays, resultTests, functionResult, storeTests, boardStore, freshBoard}
 use Rattle.bsmp.specs.Number.{numberOf, bytesOf, isBig, kindAt, readingTests, rangeTests, Reading, is, reading, Written, bytes, writing}
@@ -94,7 +94,7 @@ pub store-order : (t : Table) (i : VariableNumber) (b : List ℕ) (s : State)
 unfolding boardStore faults
 store-order t i b s = record { by-tests = first-append (faults t s) (storeTests (layout t) i b) (refuse s) _; in-order = (refl, refl) }
 
-pub fresh-order : (t : Table) (s : State) → Behind (freshBoard t s) (faults t s) (refuse s) (record { ending = silence; state = fresh (layout t) s })
+pub fresh-order : (t : Table) (s : State) → Behind (freshBoard t s) (faults t (full (layout t) s)) (refuse s) (record { ending = silence; state = fresh (layout t) s })
 unfolding freshBoard faults
 fresh-order t s = record { by-tests = refl; in-order = (refl, refl) }
 

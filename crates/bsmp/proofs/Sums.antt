@@ -12,7 +12,7 @@ use lib.Seq.{getD-set-same, getD-set-other}
 use borrow.Author.Tests.{ltb-true, not-false}
 use Rattle.bsmp.specs.Base.{some, byteAt, Test}
 use Rattle.bsmp.specs.Codes.{commandOf}
-use Rattle.bsmp.specs.Board.{curve, Table, Layout, layout, State, sumOf, curveSum, fresh, marked, usable}
+use Rattle.bsmp.specs.Board.{curve, Table, Layout, layout, State, sumOf, curveSum, full, fresh, marked, usable}
 use Rattle.bsmp.specs.Message.{line, curveAt, namesCurve, touched, formTests, replies, after, spoken, said, stateAfter, carried, handled, asked, judge}
 use Rattle.bsmp.specs.Packet.{Ending, reply, silence, packet, Result, freshBoard, refuse}
 use Rattle.bsmp.specs.Examples.{hex, tableA, placeA, stateA}
@@ -33,15 +33,15 @@ abbrev pub Current : Layout → State → CurveNumber → Type 0
 Current l s c = sumOf s c ≡ curveSum l s c
 
 -- "a fresh board works it out"
-pub fresh-current : (t : Table) (s : State) (c : CurveNumber) → usable t s ≡ true → c .0 < length (t .curves) → Current (layout t) (freshBoard t s .state) c
+pub fresh-current : (t : Table) (s : State) (c : CurveNumber) → usable t (full (layout t) s) ≡ true → c .0 < length (t .curves)
+    → Current (layout t) (freshBoard t s .state) c
 unfolding freshBoard fresh
 fresh-current t s c u h =
-    let f : ℕ → List ℕ = λ k. curveSum (layout t) s (curve k) in
-    let made : State = fresh (layout t) s in
-    ap (λ (x : Result). sumOf (x .state) c) (first-clear _ (refuse s) _ (usable-clear t s u))
+    let f : ℕ → List ℕ = λ k. curveSum (layout t) (full (layout t) s) (curve k) in
+    ap (λ (x : Result). sumOf (x .state) c) (first-clear _ (refuse s) _ (usable-clear t _ u))
     ∙ at-number f 0 (length (t .curves)) (c .0) [] h
     ∙ ap f (zero-add (c .0))
-    ∙ sym (ap (λ (x : Result). curveSum (layout t) (x .state) c) (first-clear _ (refuse s) _ (usable-clear t s u)))
+    ∙ sym (ap (λ (x : Result). curveSum (layout t) (x .state) c) (first-clear _ (refuse s) _ (usable-clear t _ u)))
 
 -- "42 renews it", and no other message any
 module _ (l : Layout) (gs : List ℕ) (p : List ℕ) (s : State) where

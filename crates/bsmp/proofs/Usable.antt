@@ -7,7 +7,7 @@ use Prim.Native.Nat.{ℕ}
 use lib.ListN.{length}
 use borrow.Author.Tests.{not-false}
 use Rattle.bsmp.specs.Base.{first}
-use Rattle.bsmp.specs.Board.{Table, State, withGroups, sizesOf, blockSizes, sumSizes, wholeValues, wholeCurves, wholeSums, rules, usable, usableVariables, usableCurves, usableFunctions, usableGroups, faults}
+use Rattle.bsmp.specs.Board.{Table, State, withGroups, sizesOf, blockSizes, sumSizes, fitting, wholeValues, wholeCurves, fitLengths, wholeSums, rules, usable, usableVariables, usableCurves, usableFunctions, usableGroups, faults}
 use Rattle.bsmp.specs.declared.Refusal.{Refusal}
 use Rattle.bsmp.specs.declared.Refusal.the-variants.{BoardUnusable}
 use Rattle.bsmp.proofs.Bools.{or-false, all-at, not-so}
@@ -19,20 +19,21 @@ pub record Usable (t : Table) (s : State) : Type 0 where
   pub values : map length (s .values) ≡ sizesOf (t .variables)
   pub curves : usableCurves (t .curves) ≡ true
   pub blocks : map length (s .blocks) ≡ blockSizes (t .curves)
+  pub lengths : fitting (blockSizes (t .curves)) (s .lengths) ≡ true
   pub sums : map length (s .sums) ≡ sumSizes (t .curves)
   pub functions : usableFunctions (t .functions) ≡ true
   pub groups : usableGroups (length (t .variables)) (s .groups) ≡ true
 
 module _ (t : Table) (s : State) where
   pub usable-parts : usable t s ≡ true → Usable t s
-  unfolding usable wholeValues wholeCurves wholeSums
+  unfolding usable wholeValues wholeCurves fitLengths wholeSums
   usable-parts h =
       let at = all-at (rules t s) h in
-      record { variables = at 0; values = same-eq _ _ (at 1); curves = at 2; blocks = same-eq _ _ (at 3); sums = same-eq _ _ (at 4); functions = at 5; groups = at 6 }
+      record { variables = at 0; values = same-eq _ _ (at 1); curves = at 2; blocks = same-eq _ _ (at 3); lengths = at 4; sums = same-eq _ _ (at 5); functions = at 6; groups = at 7 }
 
   pub usable-whole : Usable t s → usable t s ≡ true
-  unfolding usable wholeValues wholeCurves wholeSums
-  usable-whole u = rw (u .variables, u .values, same-refl (sizesOf (t .variables)), u .curves, u .blocks, same-refl (blockSizes (t .curves)), u .sums, same-refl (sumSizes (t .curves)), u .functions, u .groups)
+  unfolding usable wholeValues wholeCurves fitLengths wholeSums
+  usable-whole u = rw (u .variables, u .values, same-refl (sizesOf (t .variables)), u .curves, u .blocks, same-refl (blockSizes (t .curves)), u .lengths, u .sums, same-refl (sumSizes (t .curves)), u .functions, u .groups)
 
   pub not-usable : (Usable t s → ⊥) → usable t s ≡ false
   not-usable n = not-so (usable t s) (λ h. n (usable-parts h))
@@ -57,9 +58,9 @@ module _ (t : Table) (s : State) where
 
 -- usability goes by lengths and groups alone
 pub usable-by : (t : Table) (s s′ : State) → map length (s .values) ≡ map length (s′ .values) → map length (s .blocks) ≡ map length (s′ .blocks)
-    → map length (s .sums) ≡ map length (s′ .sums) → s .groups ≡ s′ .groups → usable t s ≡ usable t s′
-unfolding usable wholeValues wholeCurves wholeSums
-usable-by t s s′ a b c d = rw (a, b, c, d)
+    → s .lengths ≡ s′ .lengths → map length (s .sums) ≡ map length (s′ .sums) → s .groups ≡ s′ .groups → usable t s ≡ usable t s′
+unfolding usable wholeValues wholeCurves fitLengths wholeSums
+usable-by t s s′ a b c d e = rw (a, b, c, d, e)
 
 pub faults-by : (t : Table) (s s′ : State) → usable t s ≡ usable t s′ → faults t s ≡ faults t s′
 unfolding faults
@@ -68,4 +69,4 @@ faults-by t s s′ h = rw h
 pub usable-regrouped : (t : Table) (s : State) (gs : List ℕ) → usable t s ≡ true → usableGroups (length (t .variables)) gs ≡ true → usable t (withGroups s gs) ≡ true
 usable-regrouped t s gs h k =
     let u = usable-parts t s h in
-    usable-whole t (withGroups s gs) (record { variables = u .variables; values = u .values; curves = u .curves; blocks = u .blocks; sums = u .sums; functions = u .functions; groups = k })
+    usable-whole t (withGroups s gs) (record { variables = u .variables; values = u .values; curves = u .curves; blocks = u .blocks; lengths = u .lengths; sums = u .sums; functions = u .functions; groups = k })

@@ -21,8 +21,9 @@ use Rattle.bsmp.specs.declared.Outcome.the-variants.{Reply, Silence, Run
 -- the states differ at most in the bytes of variable v
 pub record Alike (v : VariableNumber) (s₁ s₂ : State) : Type 0 where
   pub others : (i : VariableNumber) → i ≢ v → valueOf s₁ i ≡ valueOf s₂ i
-  pub lengths : map length (s₁ .values) ≡ map length (s₂ .values)
+  pub sizes : map length (s₁ .values) ≡ map length (s₂ .values)
   pub blocks : s₁ .blocks ≡ s₂ .blocks
+  pub lengths : s₁ .lengths ≡ s₂ .lengths
   pub sums : s₁ .sums ≡ s₂ .sums
   pub groups : s₁ .groups ≡ s₂ .groups
 
@@ -136,7 +137,8 @@ lentAfter t a (c ∷ cs) x = lentAfter t a cs (lentOf (leftBy t a c x .holds))
 -- "alike but for one variable's bytes"
 pub record LentAlike (l : Layout) (v : VariableNumber) (x₁ x₂ : Lent) : Type 0 where
   pub others : (i : VariableNumber) → i .0 < length (l .sizes) → i ≢ v → bytesIn l (x₁ .values) i ≡ bytesIn l (x₂ .values) i
-  pub lengths : length (x₁ .values) ≡ length (x₂ .values)
+  pub size : length (x₁ .values) ≡ length (x₂ .values)
   pub blocks : x₁ .blocks ≡ x₂ .blocks
+  pub lengths : x₁ .lengths ≡ x₂ .lengths
   pub sums : x₁ .sums ≡ x₂ .sums
   pub groups : x₁ .groups ≡ x₂ .groups

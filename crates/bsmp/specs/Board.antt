@@ -73,26 +73,30 @@ layout t = record {
   functions = t .functions;
 }
 
--- what a board holds: the bytes of each variable, the bytes of each block (curve after curve), the made groups as marks; and by 02,
--- 2026-02, the sum of each curve, which may be stale ----------------------------------------------------------------------
+-- what a board holds: the bytes of each variable, the bytes of each block (curve after curve), the made groups as marks; by 02,
+-- 2026-02, the sum of each curve, which may be stale; and by 02, 2026-03, the length of each block -------------------------
 pub record State : Type 0 where
   pub values : List (List ℕ)
   pub blocks : List (List ℕ)
+  pub lengths : List ℕ
   pub sums : List (List ℕ)
   pub groups : List ℕ
 
--- the same board with other values, other blocks, other sums, other made groups
+-- the same board with other values, other blocks, other lengths, other sums, other made groups
 abbrev pub withValues : State → List (List ℕ) → State
-withValues s vs = record { values = vs; blocks = s .blocks; sums = s .sums; groups = s .groups }
+withValues s vs = record { values = vs; blocks = s .blocks; lengths = s .lengths; sums = s .sums; groups = s .groups }
 
 abbrev pub withBlocks : State → List (List ℕ) → State
-withBlocks s bs = record { values = s .values; blocks = bs; sums = s .sums; groups = s .groups }
+withBlocks s bs = record { values = s .values; blocks = bs; lengths = s .lengths; sums = s .sums; groups = s .groups }
+
+abbrev pub withLengths : State → List ℕ → State
+withLengths s ns = record { values = s .values; blocks = s .blocks; lengths = ns; sums = s .sums; groups = s .groups }
 
 abbrev pub withSums : State → List (List ℕ) → State
-withSums s ds = record { values = s .values; blocks = s .blocks; sums = ds; groups = s .groups }
+withSums s ds = record { values = s .values; blocks = s .blocks; lengths = s .lengths; sums = ds; groups = s .groups }
 
 abbrev pub withGroups : State → List ℕ → State
-withGroups s gs = record { values = s .values; blocks = s .blocks; sums = s .sums; groups = gs }
+withGroups s gs = record { values = s .values; blocks = s .blocks; lengths = s .lengths; sums = s .sums; groups = gs }
 
 abbrev pub valueOf : State → VariableNumber → List ℕ
 valueOf s i = getD (s .values) (i .0) []
@@ -157,17 +161,30 @@ blockSizes cs = join (map (λ c. replicate (c .blocks) (c .size)) cs)
 abbrev pub blockPlace : Layout → CurveNumber → ℕ → ℕ
 blockPlace l c k = sum (map (λ x. x .blocks) (take (c .0) (l .curves))) + k
 
--- the bytes of n blocks from place k on, block after block
-abbrev pub contentOf : State → (place count : ℕ) → List ℕ
-contentOf s k n = join (take n (drop k (s .blocks)))
+-- 02, 2026-03: "Each block gets a length of its own": what a block holds is so many of its first bytes
+abbrev pub contentOf : State → ℕ → List ℕ
+contentOf s k = take (getD (s .lengths) k 0) (blockOf s k)
 
--- 02, 2026-02: "MD5 by RFC 1321 over the whole curve"
+-- what n blocks from place k on hold, "in block order"
+abbrev pub contentsOf : State → (place count : ℕ) → List ℕ
+contentsOf s k n = join (map (contentOf s) (upFrom k n))
+
+-- 02, 2026-02: "MD5 by RFC 1321 over the whole curve"; 2026-03: "the checksum covers only those"
 abbrev pub curveSum : Layout → State → CurveNumber → List ℕ
-curveSum l s c = digest (contentOf s (blockPlace l c 0) (curveOf l c .blocks))
+curveSum l s c = digest (contentsOf s (blockPlace l c 0) (curveOf l c .blocks))
+
+-- 02, 2026-03: "full on a fresh board": each length is its block's size
+abbrev pub fullLengths : (sizes lengths : List ℕ) → List ℕ
+fullLengths [] ns = ns
+fullLengths (m ∷ ms) [] = []
+fullLengths (m ∷ ms) (n ∷ ns) = m ∷ fullLengths ms ns
+
+abbrev pub full : Layout → State → State
+full l s = withLengths s (fullLengths (blockSizes (l .curves)) (s .lengths))
 
 -- 02, 2026-02: "a fresh board works it out"
 unfoldable pub fresh : Layout → State → State
-fresh l s = withSums s (map (λ c. curveSum l s (curve c)) (upFrom 0 (length (l .curves))))
+fresh l s = withSums (full l s) (map (λ c. curveSum l (full l s) (curve c)) (upFrom 0 (length (l .curves))))
 
 abbrev pub functionOf : Layout → FunctionNumber → Function
 functionOf l f = getD (l .functions) (f .0) blankFunction
@@ -219,6 +236,16 @@ wholeValues t s = same (map length (s .values)) (sizesOf (t .variables))
 unfoldable pub wholeCurves : Table → State → Bool
 wholeCurves t s = same (map length (s .blocks)) (blockSizes (t .curves))
 
+-- 02, 2026-03: "1 to the block size", "one per block"
+abbrev pub fitting : (sizes lengths : List ℕ) → Bool
+fitting [] [] = true
+fitting [] (n ∷ ns) = false
+fitting (m ∷ ms) [] = false
+fitting (m ∷ ms) (n ∷ ns) = within 1 m n && fitting ms ns
+
+unfoldable pub fitLengths : Table → State → Bool
+fitLengths t s = fitting (blockSizes (t .curves)) (s .lengths)
+
 -- 02, 2026-02: "answer 0B with 16 bytes"; any are sound
 abbrev pub sumSizes : List Curve → List ℕ
 sumSizes cs = map (λ c. 16) cs
@@ -232,6 +259,7 @@ rules t s =
     ∷ wholeValues t s
     ∷ usableCurves (t .curves)
     ∷ wholeCurves t s
+    ∷ fitLengths t s
     ∷ wholeSums t s
     ∷ usableFunctions (t .functions)
     ∷ usableGroups (length (t .variables)) (s .groups)

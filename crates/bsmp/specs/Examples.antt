@@ -31,6 +31,7 @@ abbrev pub stateA : ℕ → State
 stateA one = record {
   values = hex 4 0xFF_FF_FF_FD ∷ hex 1 one ∷ hex 2 0x34_12 ∷ [];
   blocks = hex 4 0 ∷ hex 4 0 ∷ [];
+  lengths = 4 ∷ 4 ∷ [];
   sums = hex 16 0x7DEA362B3FAC8E00956A4952A3D4F474 ∷ [];
   groups = [];
 }

@@ -9,7 +9,7 @@ use lib.ListN.{length, drop, set, getD}
 use Rattle.bsmp.specs.Base.{upFrom, some, join, cut, ascending, within, bit, byteAt, wordAt, word, Test, test, first}
 use Rattle.bsmp.specs.Codes.{commandOf, operationOf, noOperation, errorCode}
 use Rattle.md5.specs.Md5.{digest}
-use Rattle.bsmp.specs.Board.{variable, group, curve, function, Layout, State, withValues, withBlocks, withSums, withGroups, blockOf, sumOf, contentOf, isWritable, sizeOf, marked}
+use Rattle.bsmp.specs.Board.{variable, group, curve, function, Layout, State, withValues, withBlocks, withLengths, withSums, withGroups, blockOf, sumOf, contentOf, contentsOf, isWritable, sizeOf, marked}
 use Rattle.bsmp.specs.Board.{members, groupBytes, writableGroup, groupCount, setOf, curveOf, blockPlace, functionOf}
 use Rattle.bsmp.specs.declared.VariableNumber.{VariableNumber}
 use Rattle.bsmp.specs.declared.GroupNumber.{GroupNumber}
@@ -31,7 +31,7 @@ pub data Change : Type 0 where
   nothing : Change
   -- each of these variables is changed, byte by byte, by the bytes given for it
   edit : Operation → List VariableNumber → List (List ℕ) → Change
-  -- the block at this place gets these first bytes
+  -- the block at this place gets these first bytes, and their number as its length
   fill : ℕ → List ℕ → Change
   -- the sum of this curve, whose blocks begin at this place and are so many, is worked out anew
   renew : CurveNumber → (place count : ℕ) → Change
@@ -43,7 +43,7 @@ pub data Answer : Type 0 where
   say : ℕ → List ℕ → Answer
   -- code, and the values of these variables
   tell : ℕ → List VariableNumber → Answer
-  -- code, a beginning, and the block at this place
+  -- code, a beginning, and what the block at this place holds
   show : ℕ → List ℕ → ℕ → Answer
   -- code, and the sum of this curve
   attest : ℕ → CurveNumber → Answer
@@ -302,15 +302,16 @@ edited op [] ps vs = vs
 edited op (i ∷ is) [] vs = vs
 edited op (i ∷ is) (p ∷ ps) vs = edited op is ps (set vs (i .0) (changed op (getD vs (i .0) []) p))
 
--- "a block write replaces as many of its first bytes as it carries", and by 02, 2026-02, "leaves [its curve's sum] stale"
+-- "a block write replaces as many of its first bytes as it carries"; by 02, 2026-03, it sets the block's length to their number, and by
+-- 2026-02, "leaves [its curve's sum] stale"
 abbrev pub filled : List ℕ → List ℕ → List ℕ
 filled d block = d ++ drop (length d) block
 
 unfoldable pub after : Change → State → State
 after nothing s = s
 after (edit op is ps) s = withValues s (edited op is ps (s .values))
-after (fill k d) s = withBlocks s (set (s .blocks) k (filled d (blockOf s k)))
-after (renew c k n) s = withSums s (set (s .sums) (c .0) (digest (contentOf s k n)))
+after (fill k d) s = withLengths (withBlocks s (set (s .blocks) k (filled d (blockOf s k)))) (set (s .lengths) k (length d))
+after (renew c k n) s = withSums s (set (s .sums) (c .0) (digest (contentsOf s k n)))
 after (regroup gs) s = withGroups s gs
 
 -- the values of these variables, one after another
@@ -325,7 +326,7 @@ pub data Said : Type 0 where
 unfoldable pub spoken : Answer → State → Said
 spoken (say c p) s = replies c p
 spoken (tell c is) s = replies c (valuesOf (s .values) is)
-spoken (show c front k) s = replies c (front ++ blockOf s k)
+spoken (show c front k) s = replies c (front ++ contentOf s k)
 spoken (attest c n) s = replies c (sumOf s n)
 spoken (call f i) s = runs f i
 

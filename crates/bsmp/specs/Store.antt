@@ -9,10 +9,11 @@ use Rattle.bsmp.specs.declared.VariableNumber.{VariableNumber}
 use Rattle.bsmp.specs.declared.Outcome.{Outcome}
 use Rattle.bsmp.specs.declared.Outcome.the-variants.{Reply, Silence, Run, Refused}
 
--- the two stores, the sums (02, 2026-02) and the made groups
+-- the two stores, the blocks' lengths (02, 2026-03), the sums (02, 2026-02) and the made groups
 pub record Lent : Type 0 where
   pub values : List ℕ
   pub blocks : List ℕ
+  pub lengths : List ℕ
   pub sums : List ℕ
   pub groups : List ℕ
 
@@ -22,13 +23,14 @@ abbrev pub held : Layout → Lent → State
 held l x = record {
   values = cut (l .sizes) (x .values);
   blocks = cut (blockSizes (l .curves)) (x .blocks);
+  lengths = x .lengths;
   sums = cut (sumSizes (l .curves)) (x .sums);
   groups = x .groups;
 }
 
 -- and the stores that hold a state
 abbrev pub lentOf : State → Lent
-lentOf s = record { values = join (s .values); blocks = join (s .blocks); sums = join (s .sums); groups = s .groups }
+lentOf s = record { values = join (s .values); blocks = join (s .blocks); lengths = s .lengths; sums = join (s .sums); groups = s .groups }
 
 -- where number i starts, for pieces of these lengths; and a variable's bytes in the store
 abbrev pub start : List ℕ → ℕ → ℕ
