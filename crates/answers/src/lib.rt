@@ -65,16 +65,17 @@ pub fn answer(
     groups: &[u64],
     values: &[u8],
     blocks: &[u8],
+    lengths: &[u16],
     sums: &[u8],
     payload: &[u8],
     reply: &mut [u8],
     at: usize,
 ) -> Spoken
-    requires { ⌜ SoundBoard (lentLayout (now sizes) writable (now curves) (now functions)) (lent (now values) (now blocks) (now sums) (now groups)) ⌝ }
+    requires { ⌜ SoundBoard (lentLayout (now sizes) writable (now curves) (now functions)) (lent (now values) (now blocks) (now lengths) (now sums) (now groups)) ⌝ }
     requires { ⌜ Passed (lentLayout (now sizes) writable (now curves) (now functions)) (now groups) (now payload) command ⌝ }
     requires { ⌜ at + 4099 ≤ length (now reply) ⌝ }
     ensures { λ r. let l = lentLayout (now (sizes .entry)) writable (now (curves .entry)) (now (functions .entry)) in
-        let x = lent (now (values .entry)) (now (blocks .entry)) (now (sums .entry)) (now (groups .entry)) in
+        let x = lent (now (values .entry)) (now (blocks .entry)) (now (lengths .entry)) (now (sums .entry)) (now (groups .entry)) in
         let said = spoken (line l (x .groups) (now (payload .entry)) command .answer) (held l x) in
         ⌜ Spoke true said (now (reply .entry)) at r (now (reply .exit)) ⌝ }
 {
@@ -100,7 +101,10 @@ pub fn answer(
             0x11,
             variables::tell(sizes, values, payload, 1, reply, at),
         ),
-        Command::ReadBlock => Spoken::of(0x41, curves::tell(curves, blocks, payload, reply, at)),
+        Command::ReadBlock => Spoken::of(
+            0x41,
+            curves::tell(curves, blocks, lengths, payload, reply, at),
+        ),
         Command::ReadSum => Spoken::of(0x0B, curves::tell_sum(sums, payload, reply, at)),
         Command::RunFunction => run(payload),
         Command::WriteVariable => Spoken::of(0xE0, 0),

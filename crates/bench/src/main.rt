@@ -45,6 +45,7 @@ fn answered(
     packet: &[u8],
     values: &mut [u8],
     blocks: &mut [u8],
+    lengths: &mut [u16],
     sums: &mut [u8],
     reply: &mut [u8],
 ) -> Ended {
@@ -69,6 +70,7 @@ fn answered(
         0,
         values,
         blocks,
+        lengths,
         sums,
         packet,
         reply,
@@ -81,8 +83,8 @@ fn answered(
     Ended { outcome, groups }
 }
 
-// Board A's sums, before the first packet.
-fn fresh(values: &[u8], blocks: &[u8], sums: &mut [u8]) {
+// Board A's lengths and sums, before the first packet.
+fn fresh(values: &[u8], blocks: &[u8], lengths: &mut [u16], sums: &mut [u8]) {
     let records = variables();
     let writable = records.writable;
     let sizes = records.sizes;
@@ -101,6 +103,7 @@ fn fresh(values: &[u8], blocks: &[u8], sums: &mut [u8]) {
         &sets,
         values,
         blocks,
+        lengths,
         sums,
     );
     match started {
@@ -118,6 +121,7 @@ fn one(
     packet: &[u8],
     values: &mut [u8],
     blocks: &mut [u8],
+    lengths: &mut [u16],
     sums: &mut [u8],
     reply: &mut [u8],
     out: &mut [u8],
@@ -125,7 +129,7 @@ fn one(
     requires { ⌜ (length (now reply) ≡ 4104) × (9000 ≤ length (now out)) ⌝ }
     ensures { λ r. ⌜ r .size ≤ 9000 ⌝ }
 {
-    let d = answered(groups, packet, values, blocks, sums, reply);
+    let d = answered(groups, packet, values, blocks, lengths, sums, reply);
     let o = d.outcome;
     let a = bench_line::put_line(number, o, packet, reply, out);
     let g = d.groups;
@@ -184,6 +188,7 @@ fn step(
     p: Place,
     values: &mut [u8],
     blocks: &mut [u8],
+    lengths: &mut [u16],
     sums: &mut [u8],
     reply: &mut [u8],
     out: &mut [u8],
@@ -202,6 +207,7 @@ fn step(
         &buf[from..next],
         values,
         blocks,
+        lengths,
         sums,
         reply,
         &mut out[to..],
@@ -223,6 +229,7 @@ fn drain(
     groups: Groups,
     values: &mut [u8],
     blocks: &mut [u8],
+    lengths: &mut [u16],
     sums: &mut [u8],
     reply: &mut [u8],
     out: &mut [u8],
@@ -238,7 +245,7 @@ fn drain(
     };
     let mut size = whole(buf, 0, have);
     while 2 <= size {
-        p = step(buf, size, p, values, blocks, sums, reply, out);
+        p = step(buf, size, p, values, blocks, lengths, sums, reply, out);
         let at = p.at;
         size = whole(buf, at, have);
     }
@@ -292,6 +299,7 @@ fn turn(
     groups: Groups,
     values: &mut [u8],
     blocks: &mut [u8],
+    lengths: &mut [u16],
     sums: &mut [u8],
     reply: &mut [u8],
     out: &mut [u8],
@@ -312,7 +320,7 @@ fn turn(
         };
     }
     let all = have + n;
-    let p = drain(buf, all, number, groups, values, blocks, sums, reply, out);
+    let p = drain(buf, all, number, groups, values, blocks, lengths, sums, reply, out);
     let at = p.at;
     shift(buf, at, all);
     let g = p.groups;
@@ -329,6 +337,7 @@ fn run(
     buf: &mut [u8],
     values: &mut [u8],
     blocks: &mut [u8],
+    lengths: &mut [u16],
     sums: &mut [u8],
     reply: &mut [u8],
     out: &mut [u8],
@@ -344,7 +353,7 @@ fn run(
     let mut turns = u64::MAX;
     let mut go = true;
     while 0 < turns && go {
-        let r = turn(buf, have, number, groups, values, blocks, sums, reply, out);
+        let r = turn(buf, have, number, groups, values, blocks, lengths, sums, reply, out);
         have = r.have;
         number = r.number;
         groups = r.groups;
@@ -357,14 +366,16 @@ fn main() {
     let mut buf = [0u8; 131072];
     let mut values = [0xFFu8, 0xFF, 0xFF, 0xFD, 0x5A, 0x34, 0x12];
     let mut blocks = [0u8; 8];
+    let mut lengths = [0u16; 2];
     let mut sums = [0u8; 16];
     let mut reply = [0u8; 4104];
     let mut out = [0u8; 131072];
-    fresh(&values, &blocks, &mut sums);
+    fresh(&values, &blocks, &mut lengths, &mut sums);
     run(
         &mut buf,
         &mut values,
         &mut blocks,
+        &mut lengths,
         &mut sums,
         &mut reply,
         &mut out,

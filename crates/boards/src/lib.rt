@@ -1,14 +1,15 @@
-// Refusal 1 for the whole board: its records, the lengths of its stores and its sums, its groups.
+// Refusal 1 for the whole board: its records, the sizes of its stores and its sums, its blocks' lengths, its groups.
+use bsmp::CurveNumber;
 use bsmp::Variable;
 ghost use mathlib.Core.Path.{_≡_};
-ghost use mathlib.Core.Bool.{_&&_};
+ghost use mathlib.Core.Bool.{true, _&&_};
 ghost use Prim.Native.Nat.{_+_, _-_, _*_, _%_, _≤_};
 ghost use lib.Dec.{eqb};
 ghost use lib.ListN.{length};
 ghost use Rattle.bsmp.specs.Base.{sum};
 ghost use Rattle.bsmp.specs.Store.{held};
-ghost use Rattle.bsmp.specs.Board.{sizesOf, usableVariables, layout, usable};
-ghost use Rattle.records.specs.Lending.{recordsBy, recordsOf, groupsBy, groupsOf, tableOf, lent};
+ghost use Rattle.bsmp.specs.Board.{sizesOf, usableVariables, blockSizes, usableCurves, fitting, layout, full, usable};
+ghost use Rattle.records.specs.Lending.{recordsBy, recordsOf, curvesOf, groupsBy, groupsOf, tableOf, lent};
 ghost use Rattle.boards.specs.Pieces.{usableFrom};
 
 // Whether the 16 records from `from` on break no rule.
@@ -113,8 +114,28 @@ fn each_summed(curves: &[u32], sums: &[u8]) -> bool
     sums.len() / 16 * 3 == curves.len()
 }
 
-// Every rule, one after another.
-pub fn usable_board(
+// Whether each block's length is 1 to its size.
+fn fit_lengths(curves: &[u32], lengths: &[u16]) -> bool
+    requires { ⌜ (usableCurves (curvesOf (now curves)) ≡ true) × (length (now lengths) ≡ length (blockSizes (curvesOf (now curves)))) ⌝ }
+    ensures { λ r. ⌜ r ≡ fitting (blockSizes (curvesOf (now (curves .entry)))) (now (lengths .entry)) ⌝ }
+{
+    let n = records::curve_count(curves);
+    let mut first: usize = 0;
+    let mut i: usize = 0;
+    while i < n {
+        let curve = records::curve_at(curves, CurveNumber(i));
+        let end = first + curve.blocks as usize;
+        if !rules::fitting(&lengths[first..end], curve.size as u16) {
+            return false;
+        }
+        first = end;
+        i += 1;
+    }
+    true
+}
+
+// Every rule but what lengths there are, one after another: of a board that is to be fresh.
+pub fn freshable_board(
     count: usize,
     writable: &[u8; 64],
     sizes: &[u8; 64],
@@ -125,12 +146,14 @@ pub fn usable_board(
     sets: &[u64; 5],
     values: &[u8],
     blocks: &[u8],
+    lengths: &[u16],
     sums: &[u8],
 ) -> bool
     ensures { λ r. let records = recordsBy count (now (writable .entry)) (now (sizes .entry)) (now (kinds .entry)) in
         let t = tableOf records (now (curves .entry)) (now (functions .entry)) in
         let groups = groupsOf (groupsBy made (now (sets .entry))) in
-        ⌜ r ≡ usable t (held (layout t) (lent (now (values .entry)) (now (blocks .entry)) (now (sums .entry)) groups)) ⌝ }
+        let x = lent (now (values .entry)) (now (blocks .entry)) (now (lengths .entry)) (now (sums .entry)) groups in
+        ⌜ r ≡ usable t (full (layout t) (held (layout t) x)) ⌝ }
 {
     if !each_summed(curves, sums) {
         return false;
@@ -149,10 +172,54 @@ pub fn usable_board(
     if curves_total.bytes as usize != blocks.len() {
         return false;
     }
+    if curves_total.blocks as usize != lengths.len() {
+        return false;
+    }
     if !rules::usable_functions(functions) {
         return false;
     }
     rules::usable_groups(made, sets, count)
+}
+
+// Every rule.
+pub fn usable_board(
+    count: usize,
+    writable: &[u8; 64],
+    sizes: &[u8; 64],
+    kinds: &[u8; 64],
+    curves: &[u32],
+    functions: &[u8],
+    made: u64,
+    sets: &[u64; 5],
+    values: &[u8],
+    blocks: &[u8],
+    lengths: &[u16],
+    sums: &[u8],
+) -> bool
+    ensures { λ r. let records = recordsBy count (now (writable .entry)) (now (sizes .entry)) (now (kinds .entry)) in
+        let t = tableOf records (now (curves .entry)) (now (functions .entry)) in
+        let groups = groupsOf (groupsBy made (now (sets .entry))) in
+        let x = lent (now (values .entry)) (now (blocks .entry)) (now (lengths .entry)) (now (sums .entry)) groups in
+        ⌜ r ≡ usable t (held (layout t) x) ⌝ }
+{
+    let freshable = freshable_board(
+        count,
+        writable,
+        sizes,
+        kinds,
+        curves,
+        functions,
+        made,
+        sets,
+        values,
+        blocks,
+        lengths,
+        sums,
+    );
+    if !freshable {
+        return false;
+    }
+    fit_lengths(curves, lengths)
 }
 
 // The same as `usable_board`, for packets: it has one caller, since the compiler takes only such a function into the entry whole.
@@ -167,12 +234,14 @@ pub fn quick_board(
     sets: &[u64; 5],
     values: &[u8],
     blocks: &[u8],
+    lengths: &[u16],
     sums: &[u8],
 ) -> bool
     ensures { λ r. let records = recordsBy count (now (writable .entry)) (now (sizes .entry)) (now (kinds .entry)) in
         let t = tableOf records (now (curves .entry)) (now (functions .entry)) in
         let groups = groupsOf (groupsBy made (now (sets .entry))) in
-        ⌜ r ≡ usable t (held (layout t) (lent (now (values .entry)) (now (blocks .entry)) (now (sums .entry)) groups)) ⌝ }
+        let x = lent (now (values .entry)) (now (blocks .entry)) (now (lengths .entry)) (now (sums .entry)) groups in
+        ⌜ r ≡ usable t (held (layout t) x) ⌝ }
 {
     if !each_summed(curves, sums) {
         return false;
@@ -185,6 +254,12 @@ pub fn quick_board(
         return false;
     }
     if curves_total.bytes as usize != blocks.len() {
+        return false;
+    }
+    if curves_total.blocks as usize != lengths.len() {
+        return false;
+    }
+    if !fit_lengths(curves, lengths) {
         return false;
     }
     if !rules::usable_groups(made, sets, count) {

@@ -11,7 +11,7 @@ ghost use lib.IntN.{pos};
 ghost use Rattle.md5.specs.Md5.{digest};
 ghost use Rattle.plain.specs.Lending.{lending};
 ghost use Rattle.plain.specs.Numbers.{signedSays, unsignedSays};
-ghost use Rattle.plain.specs.Calls.{plainPacketLeft, packetOf, plainResultLeft, resultOf, plainBytesLeft, storeOf, freshOf, writingOf, readingOf};
+ghost use Rattle.plain.specs.Calls.{plainPacketLeft, packetOf, plainResultLeft, resultOf, plainBytesLeft, storeOf, plainFreshLeft, freshOf, writingOf, readingOf};
 
 #[no_mangle]
 pub extern "C" fn bsmp_packet(
@@ -24,13 +24,14 @@ pub extern "C" fn bsmp_packet(
     busy: u64,
     values: &mut [u8],
     blocks: &mut [u8],
+    lengths: &mut [u16],
     sums: &mut [u8],
     request: &[u8],
     reply: &mut [u8],
 ) -> PlainOutcome
     ensures { λ r. let board = lending (now (variables .entry)) (now (curves .entry)) (now (functions .entry))
-        (now (groups .entry)) (now (values .entry)) (now (blocks .entry)) (now (sums .entry)) in
-        ⌜ plainPacketLeft r (now (groups .exit)) (now (reply .exit)) (now (values .exit)) (now (blocks .exit)) (now (sums .exit))
+        (now (groups .entry)) (now (values .entry)) (now (blocks .entry)) (now (lengths .entry)) (now (sums .entry)) in
+        ⌜ plainPacketLeft r (now (groups .exit)) (now (reply .exit)) (now (values .exit)) (now (blocks .exit)) (now (lengths .exit)) (now (sums .exit))
         ≡ packetOf board own multicast busy (now (request .entry)) (now (reply .entry)) ⌝ }
 {
     let mut writable = [0u8; 64];
@@ -52,6 +53,7 @@ pub extern "C" fn bsmp_packet(
         busy,
         values,
         blocks,
+        lengths,
         sums,
         request,
         reply,
@@ -68,6 +70,7 @@ pub extern "C" fn bsmp_function_result(
     groups: &Groups,
     values: &[u8],
     blocks: &[u8],
+    lengths: &[u16],
     sums: &[u8],
     function: usize,
     due: bool,
@@ -77,7 +80,7 @@ pub extern "C" fn bsmp_function_result(
     reply: &mut [u8],
 ) -> PlainOutcome
     ensures { λ r. let board = lending (now (variables .entry)) (now (curves .entry)) (now (functions .entry))
-        (now (groups .entry)) (now (values .entry)) (now (blocks .entry)) (now (sums .entry)) in
+        (now (groups .entry)) (now (values .entry)) (now (blocks .entry)) (now (lengths .entry)) (now (sums .entry)) in
         ⌜ plainResultLeft r (now (reply .exit)) ≡ resultOf board function due failed error (now (output .entry)) (now (reply .entry)) ⌝ }
 {
     let mut writable = [0u8; 64];
@@ -96,6 +99,7 @@ pub extern "C" fn bsmp_function_result(
         &groups.sets,
         values,
         blocks,
+        lengths,
         sums,
         function,
         due,
@@ -114,12 +118,13 @@ pub extern "C" fn bsmp_board_store(
     groups: &Groups,
     values: &mut [u8],
     blocks: &[u8],
+    lengths: &[u16],
     sums: &[u8],
     variable: usize,
     bytes: &[u8],
 ) -> u8
     ensures { λ r. let board = lending (now (variables .entry)) (now (curves .entry)) (now (functions .entry))
-        (now (groups .entry)) (now (values .entry)) (now (blocks .entry)) (now (sums .entry)) in
+        (now (groups .entry)) (now (values .entry)) (now (blocks .entry)) (now (lengths .entry)) (now (sums .entry)) in
         ⌜ plainBytesLeft r (now (values .exit)) ≡ storeOf board variable (now (bytes .entry)) ⌝ }
 {
     let mut writable = [0u8; 64];
@@ -138,6 +143,7 @@ pub extern "C" fn bsmp_board_store(
         &groups.sets,
         values,
         blocks,
+        lengths,
         sums,
         variable,
         bytes,
@@ -152,11 +158,12 @@ pub extern "C" fn bsmp_fresh_board(
     groups: &Groups,
     values: &[u8],
     blocks: &[u8],
+    lengths: &mut [u16],
     sums: &mut [u8],
 ) -> u8
     ensures { λ r. let board = lending (now (variables .entry)) (now (curves .entry)) (now (functions .entry))
-        (now (groups .entry)) (now (values .entry)) (now (blocks .entry)) (now (sums .entry)) in
-        ⌜ plainBytesLeft r (now (sums .exit)) ≡ freshOf board ⌝ }
+        (now (groups .entry)) (now (values .entry)) (now (blocks .entry)) (now (lengths .entry)) (now (sums .entry)) in
+        ⌜ plainFreshLeft r (now (lengths .exit)) (now (sums .exit)) ≡ freshOf board ⌝ }
 {
     let mut writable = [0u8; 64];
     let mut sizes = [0u8; 64];
@@ -174,6 +181,7 @@ pub extern "C" fn bsmp_fresh_board(
         &groups.sets,
         values,
         blocks,
+        lengths,
         sums,
     )
 }

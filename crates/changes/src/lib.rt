@@ -1,4 +1,4 @@
-// What a command that passed its tests changes in the stores and the sums, and what it makes of the made groups.
+// What a command that passed its tests changes in the stores, the lengths and the sums, and what it makes of the made groups.
 use bsmp::Command;
 use bsmp::Operation;
 ghost use mathlib.Core.Path.{_≡_};
@@ -50,7 +50,7 @@ fn change_one(
     Regroup::Keep
 }
 
-// Carries out a command that passed its tests: changes the stores and the sums, and tells what becomes of the made groups.
+// Carries out a command that passed its tests: changes the stores, the lengths and the sums, and tells what becomes of the made groups.
 pub fn change(
     command: Command,
     sizes: &[u8],
@@ -60,14 +60,15 @@ pub fn change(
     groups: &[u64],
     values: &mut [u8],
     blocks: &mut [u8],
+    lengths: &mut [u16],
     sums: &mut [u8],
     payload: &[u8],
 ) -> Regroup
-    requires { ⌜ SoundBoard (lentLayout (now sizes) writable (now curves) (now functions)) (lent (now values) (now blocks) (now sums) (now groups)) ⌝ }
+    requires { ⌜ SoundBoard (lentLayout (now sizes) writable (now curves) (now functions)) (lent (now values) (now blocks) (now lengths) (now sums) (now groups)) ⌝ }
     requires { ⌜ Passed (lentLayout (now sizes) writable (now curves) (now functions)) (now groups) (now payload) command ⌝ }
     ensures { λ r. let l = lentLayout (now (sizes .entry)) writable (now (curves .entry)) (now (functions .entry)) in
-        let x = lent (now (values .entry)) (now (blocks .entry)) (now (sums .entry)) (now (groups .entry)) in
-        let y = lent (now (values .exit)) (now (blocks .exit)) (now (sums .exit)) (now (groups .entry)) in
+        let x = lent (now (values .entry)) (now (blocks .entry)) (now (lengths .entry)) (now (sums .entry)) (now (groups .entry)) in
+        let y = lent (now (values .exit)) (now (blocks .exit)) (now (lengths .exit)) (now (sums .exit)) (now (groups .entry)) in
         ⌜ ChangedBy l x (line l (x .groups) (now (payload .entry)) command .change) r y ⌝ }
 {
     match command {
@@ -87,11 +88,11 @@ pub fn change(
         Command::MakeGroup => Regroup::Make(sets::set_of(payload)),
         Command::RemoveGroups => removal(groups),
         Command::WriteBlock => {
-            curves::change(curves, blocks, payload);
+            curves::change(curves, blocks, lengths, payload);
             Regroup::Keep
         }
         Command::RenewSum => {
-            curves::renew(curves, blocks, sums, parts::curve_at(payload, 0));
+            curves::renew(curves, blocks, lengths, sums, parts::curve_at(payload, 0));
             Regroup::Keep
         }
         Command::Version => Regroup::Keep,

@@ -97,17 +97,18 @@ fn answer(
     groups: &[u64],
     values: &mut [u8],
     blocks: &mut [u8],
+    lengths: &mut [u16],
     sums: &mut [u8],
     message: &[u8],
     busy: u64,
     reply: &mut [u8],
 ) -> Received
     requires { let l = typedLayout (now sizes) (now types) (now curves) (now functions) in
-        ⌜ SoundBoard l (lent (now values) (now blocks) (now sums) (now groups)) × SoundTypes (now types) ⌝ }
+        ⌜ SoundBoard l (lent (now values) (now blocks) (now lengths) (now sums) (now groups)) × SoundTypes (now types) ⌝ }
     requires { ⌜ 4104 ≤ length (now reply) ⌝ }
     ensures { λ r. let l = typedLayout (now (sizes .entry)) (now (types .entry)) (now (curves .entry)) (now (functions .entry)) in
-        let x = lent (now (values .entry)) (now (blocks .entry)) (now (sums .entry)) (now (groups .entry)) in
-        let y = lent (now (values .exit)) (now (blocks .exit)) (now (sums .exit)) (now (groups .entry)) in
+        let x = lent (now (values .entry)) (now (blocks .entry)) (now (lengths .entry)) (now (sums .entry)) (now (groups .entry)) in
+        let y = lent (now (values .exit)) (now (blocks .exit)) (now (lengths .exit)) (now (sums .exit)) (now (groups .entry)) in
         let result = served l busy due (now (message .entry)) (held l x) in
         ⌜ EndsAs result l (now (reply .entry)) (r .outcome) (r .regroup) (now (reply .exit)) y ⌝ }
 {
@@ -120,6 +121,7 @@ fn answer(
         groups,
         values,
         blocks,
+        lengths,
         sums,
         message,
         busy,
@@ -146,18 +148,19 @@ fn lend(
     busy: u64,
     values: &mut [u8],
     blocks: &mut [u8],
+    lengths: &mut [u16],
     sums: &mut [u8],
     request: &[u8],
     reply: &mut [u8],
 ) -> Received
     requires { let records = recordsBy count (now types) (now sizes) (now kinds) in
-        ⌜ BoardReady records (now curves) (now functions) (groupsBy made (now sets)) (now values) (now blocks) (now sums) ⌝ }
+        ⌜ BoardReady records (now curves) (now functions) (groupsBy made (now sets)) (now values) (now blocks) (now lengths) (now sums) ⌝ }
     requires { ⌜ (2 ≤ length (now request)) × (4104 ≤ length (now reply)) ⌝ }
     ensures { λ r. let records = recordsBy count (now (types .entry)) (now (sizes .entry)) (now (kinds .entry)) in
         let l = layout (tableOf records (now (curves .entry)) (now (functions .entry))) in
         let groups = groupsOf (groupsBy made (now (sets .entry))) in
-        let x = lent (now (values .entry)) (now (blocks .entry)) (now (sums .entry)) groups in
-        let y = lent (now (values .exit)) (now (blocks .exit)) (now (sums .exit)) groups in
+        let x = lent (now (values .entry)) (now (blocks .entry)) (now (lengths .entry)) (now (sums .entry)) groups in
+        let y = lent (now (values .exit)) (now (blocks .exit)) (now (lengths .exit)) (now (sums .exit)) groups in
         let result = served l busy due (message (now (request .entry))) (held l x) in
         ⌜ EndsAs result l (now (reply .entry)) (r .outcome) (r .regroup) (now (reply .exit)) y ⌝ }
 {
@@ -172,6 +175,7 @@ fn lend(
         &sets[0..groups],
         values,
         blocks,
+        lengths,
         sums,
         &request[1..end],
         busy,
@@ -191,11 +195,12 @@ fn ready(
     sets: &[u64; 5],
     values: &[u8],
     blocks: &[u8],
+    lengths: &[u16],
     sums: &[u8],
 ) -> bool
     ensures { λ r. let records = recordsBy count (now (writable .entry)) (now (sizes .entry)) (now (kinds .entry)) in
         let groups = groupsBy made (now (sets .entry)) in
-        ⌜ Tested r records (now (curves .entry)) (now (functions .entry)) groups (now (values .entry)) (now (blocks .entry)) (now (sums .entry)) ⌝ }
+        ⌜ Tested r records (now (curves .entry)) (now (functions .entry)) groups (now (values .entry)) (now (blocks .entry)) (now (lengths .entry)) (now (sums .entry)) ⌝ }
 {
     // as slices, since of these it is known how many places there are
     let _types = &writable[..];
@@ -212,6 +217,7 @@ fn ready(
         sets,
         values,
         blocks,
+        lengths,
         sums,
     )
 }
@@ -232,17 +238,18 @@ fn receive(
     busy: u64,
     values: &mut [u8],
     blocks: &mut [u8],
+    lengths: &mut [u16],
     sums: &mut [u8],
     request: &[u8],
     reply: &mut [u8],
 ) -> Received
     requires { let records = recordsBy count (now types) (now sizes) (now kinds) in
-        ⌜ Tested usable records (now curves) (now functions) (groupsBy made (now sets)) (now values) (now blocks) (now sums) ⌝ }
+        ⌜ Tested usable records (now curves) (now functions) (groupsBy made (now sets)) (now values) (now blocks) (now lengths) (now sums) ⌝ }
     ensures { λ r. let records = recordsBy count (now (types .entry)) (now (sizes .entry)) (now (kinds .entry)) in
         let t = tableOf records (now (curves .entry)) (now (functions .entry)) in
         let groups = groupsOf (groupsBy made (now (sets .entry))) in
-        let x = lent (now (values .entry)) (now (blocks .entry)) (now (sums .entry)) groups in
-        let y = lent (now (values .exit)) (now (blocks .exit)) (now (sums .exit)) groups in
+        let x = lent (now (values .entry)) (now (blocks .entry)) (now (lengths .entry)) (now (sums .entry)) groups in
+        let y = lent (now (values .exit)) (now (blocks .exit)) (now (lengths .exit)) (now (sums .exit)) groups in
         let b = now (reply .entry) in
         ⌜ CarriedAs t (placed own multicast) busy (now (request .entry)) x b (r .outcome) (r .regroup) (now (reply .exit)) y ⌝ }
 {
@@ -268,6 +275,7 @@ fn receive(
         busy,
         values,
         blocks,
+        lengths,
         sums,
         request,
         reply,
@@ -289,6 +297,7 @@ fn carry(
     busy: u64,
     values: &mut [u8],
     blocks: &mut [u8],
+    lengths: &mut [u16],
     sums: &mut [u8],
     request: &[u8],
     reply: &mut [u8],
@@ -296,8 +305,8 @@ fn carry(
     ensures { λ r. let records = recordsBy count (now (writable .entry)) (now (sizes .entry)) (now (kinds .entry)) in
         let t = tableOf records (now (curves .entry)) (now (functions .entry)) in
         let groups = groupsOf (groupsBy made (now (sets .entry))) in
-        let x = lent (now (values .entry)) (now (blocks .entry)) (now (sums .entry)) groups in
-        let y = lent (now (values .exit)) (now (blocks .exit)) (now (sums .exit)) groups in
+        let x = lent (now (values .entry)) (now (blocks .entry)) (now (lengths .entry)) (now (sums .entry)) groups in
+        let y = lent (now (values .exit)) (now (blocks .exit)) (now (lengths .exit)) (now (sums .exit)) groups in
         let b = now (reply .entry) in
         ⌜ CarriedAs t (placed own multicast) busy (now (request .entry)) x b (r .outcome) (r .regroup) (now (reply .exit)) y
         × Fits (r .regroup) (groupsBy made (now (sets .entry))) ⌝ }
@@ -314,6 +323,7 @@ fn carry(
         sets,
         values,
         blocks,
+        lengths,
         sums,
     );
     receive(
@@ -331,6 +341,7 @@ fn carry(
         busy,
         values,
         blocks,
+        lengths,
         sums,
         request,
         reply,
@@ -352,6 +363,7 @@ pub fn packet(
     busy: u64,
     values: &mut [u8],
     blocks: &mut [u8],
+    lengths: &mut [u16],
     sums: &mut [u8],
     request: &[u8],
     reply: &mut [u8],
@@ -359,9 +371,9 @@ pub fn packet(
     ensures { λ r. let records = recordsBy count (now (writable .entry)) (now (sizes .entry)) (now (kinds .entry)) in
         let t = tableOf records (now (curves .entry)) (now (functions .entry)) in
         let groups = groupsBy made (now (sets .entry)) in
-        let s = held (layout t) (lent (now (values .entry)) (now (blocks .entry)) (now (sums .entry)) (groupsOf groups)) in
+        let s = held (layout t) (lent (now (values .entry)) (now (blocks .entry)) (now (lengths .entry)) (now (sums .entry)) (groupsOf groups)) in
         let result = packet t (placed own multicast) busy (length (now (reply .entry))) (now (request .entry)) s in
-        ⌜ packetLeft r (now (sets .exit)) (now (reply .exit)) (now (values .exit)) (now (blocks .exit)) (now (sums .exit)) ≡ packetLeftOf result (now (reply .entry)) groups ⌝ }
+        ⌜ packetLeft r (now (sets .exit)) (now (reply .exit)) (now (values .exit)) (now (blocks .exit)) (now (lengths .exit)) (now (sums .exit)) ≡ packetLeftOf result (now (reply .entry)) groups ⌝ }
 {
     let h = carry(
         count,
@@ -377,6 +389,7 @@ pub fn packet(
         busy,
         values,
         blocks,
+        lengths,
         sums,
         request,
         reply,

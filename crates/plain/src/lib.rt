@@ -16,7 +16,7 @@ ghost use Rattle.records.specs.Lending.{recordsBy, recordsOf, groupsBy};
 ghost use Rattle.readings.specs.Answers.{signedReadingOf, unsignedReadingOf};
 ghost use Rattle.plain.specs.Lending.{lending};
 ghost use Rattle.plain.specs.Numbers.{plainOutcomeOf, ranFrom, storedNumber, writingNumber, plainReadingOf, signedSays, unsignedSays};
-ghost use Rattle.plain.specs.Calls.{plainPacketLeft, packetOf, plainResultLeft, resultOf, plainBytesLeft, storeOf, freshOf, writingOf, readingOf};
+ghost use Rattle.plain.specs.Calls.{plainPacketLeft, packetOf, plainResultLeft, resultOf, plainBytesLeft, storeOf, plainFreshLeft, freshOf, writingOf, readingOf};
 
 // How a call ends: kind 0 a reply of `length` bytes, 1 silence, 2 a function to be run with `length` bytes of input from place
 // `input` of the packet on, 3 a local refusal with 01's number. What a kind has no use for is 0.
@@ -174,14 +174,15 @@ pub fn packet(
     busy: u64,
     values: &mut [u8],
     blocks: &mut [u8],
+    lengths: &mut [u16],
     sums: &mut [u8],
     request: &[u8],
     reply: &mut [u8],
 ) -> PlainDone
     ensures { λ r. let records = recordsBy count (now (writable .entry)) (now (sizes .entry)) (now (kinds .entry)) in
         let groups = groupsBy made (now (sets .entry)) in
-        let board = lending (recordsOf records) (now (curves .entry)) (now (functions .entry)) groups (now (values .entry)) (now (blocks .entry)) (now (sums .entry)) in
-        ⌜ plainPacketLeft (r .outcome) (groupsBy (r .count) (now (sets .exit))) (now (reply .exit)) (now (values .exit)) (now (blocks .exit)) (now (sums .exit))
+        let board = lending (recordsOf records) (now (curves .entry)) (now (functions .entry)) groups (now (values .entry)) (now (blocks .entry)) (now (lengths .entry)) (now (sums .entry)) in
+        ⌜ plainPacketLeft (r .outcome) (groupsBy (r .count) (now (sets .exit))) (now (reply .exit)) (now (values .exit)) (now (blocks .exit)) (now (lengths .exit)) (now (sums .exit))
         ≡ packetOf board own multicast busy (now (request .entry)) (now (reply .entry)) ⌝ }
 {
     let done = node::packet(
@@ -198,6 +199,7 @@ pub fn packet(
         busy,
         values,
         blocks,
+        lengths,
         sums,
         request,
         reply,
@@ -221,6 +223,7 @@ pub fn function_result(
     sets: &[u64; 5],
     values: &[u8],
     blocks: &[u8],
+    lengths: &[u16],
     sums: &[u8],
     function: usize,
     due: bool,
@@ -231,7 +234,7 @@ pub fn function_result(
 ) -> PlainOutcome
     ensures { λ r. let records = recordsBy count (now (writable .entry)) (now (sizes .entry)) (now (kinds .entry)) in
         let groups = groupsBy made (now (sets .entry)) in
-        let board = lending (recordsOf records) (now (curves .entry)) (now (functions .entry)) groups (now (values .entry)) (now (blocks .entry)) (now (sums .entry)) in
+        let board = lending (recordsOf records) (now (curves .entry)) (now (functions .entry)) groups (now (values .entry)) (now (blocks .entry)) (now (lengths .entry)) (now (sums .entry)) in
         ⌜ plainResultLeft r (now (reply .exit)) ≡ resultOf board function due failed error (now (output .entry)) (now (reply .entry)) ⌝ }
 {
     let ran = ran_of(failed, error);
@@ -246,6 +249,7 @@ pub fn function_result(
         sets,
         values,
         blocks,
+        lengths,
         sums,
         FunctionNumber(function),
         due,
@@ -267,13 +271,14 @@ pub fn board_store(
     sets: &[u64; 5],
     values: &mut [u8],
     blocks: &[u8],
+    lengths: &[u16],
     sums: &[u8],
     variable: usize,
     bytes: &[u8],
 ) -> u8
     ensures { λ r. let records = recordsBy count (now (writable .entry)) (now (sizes .entry)) (now (kinds .entry)) in
         let groups = groupsBy made (now (sets .entry)) in
-        let board = lending (recordsOf records) (now (curves .entry)) (now (functions .entry)) groups (now (values .entry)) (now (blocks .entry)) (now (sums .entry)) in
+        let board = lending (recordsOf records) (now (curves .entry)) (now (functions .entry)) groups (now (values .entry)) (now (blocks .entry)) (now (lengths .entry)) (now (sums .entry)) in
         ⌜ plainBytesLeft r (now (values .exit)) ≡ storeOf board variable (now (bytes .entry)) ⌝ }
 {
     let stored = results::board_store(
@@ -287,6 +292,7 @@ pub fn board_store(
         sets,
         values,
         blocks,
+        lengths,
         sums,
         VariableNumber(variable),
         bytes,
@@ -305,12 +311,13 @@ pub fn fresh_board(
     sets: &[u64; 5],
     values: &[u8],
     blocks: &[u8],
+    lengths: &mut [u16],
     sums: &mut [u8],
 ) -> u8
     ensures { λ r. let records = recordsBy count (now (writable .entry)) (now (sizes .entry)) (now (kinds .entry)) in
         let groups = groupsBy made (now (sets .entry)) in
-        let board = lending (recordsOf records) (now (curves .entry)) (now (functions .entry)) groups (now (values .entry)) (now (blocks .entry)) (now (sums .entry)) in
-        ⌜ plainBytesLeft r (now (sums .exit)) ≡ freshOf board ⌝ }
+        let board = lending (recordsOf records) (now (curves .entry)) (now (functions .entry)) groups (now (values .entry)) (now (blocks .entry)) (now (lengths .entry)) (now (sums .entry)) in
+        ⌜ plainFreshLeft r (now (lengths .exit)) (now (sums .exit)) ≡ freshOf board ⌝ }
 {
     let stored = results::fresh_board(
         count,
@@ -323,6 +330,7 @@ pub fn fresh_board(
         sets,
         values,
         blocks,
+        lengths,
         sums,
     );
     stored_number(stored)

@@ -13,6 +13,7 @@ use Rattle.bsmp.specs.declared.Function.{Function}
 use Rattle.records.specs.declared.Records.{Records}
 use Rattle.records.specs.declared.Groups.{Groups}
 use Rattle.records.specs.declared.NewGroup.{NewGroup}
+use Rattle.records.specs.declared.Before.{Before}
 
 -- n things, numbered from 0
 abbrev pub numbered : {A : Type 0} → (ℕ → A) → ℕ → List A
@@ -46,6 +47,13 @@ curvesOf ns = numbered (curveAt ns) ((length ns + 2) / 3)
 abbrev pub curveBytes : List Curve → ℕ
 curveBytes cs = sum (map (λ c. c .size * c .blocks) cs)
 
+-- and how many they are
+abbrev pub curveBlocks : List Curve → ℕ
+curveBlocks cs = sum (map (λ c. c .blocks) cs)
+
+abbrev pub beforeOf : List Curve → Before
+beforeOf cs = record { blocks = curveBlocks cs; bytes = curveBytes cs }
+
 -- two numbers for a function: input, output; one left over is one more record, which breaks the rules
 abbrev pub functionAt : List ℕ → ℕ → Function
 functionAt ns f =
@@ -71,18 +79,18 @@ newGroupOf n m = record { count = n + 1; place = n; set = m }
 abbrev pub tableOf : Records → (curves functions : List ℕ) → Table
 tableOf r cs fs = record { variables = recordsOf r; curves = curvesOf cs; functions = functionsOf fs }
 
-abbrev pub lent : (values blocks sums groups : List ℕ) → Lent
-lent vs bs ds gs = record { values = vs; blocks = bs; sums = ds; groups = gs }
+abbrev pub lent : (values blocks lengths sums groups : List ℕ) → Lent
+lent vs bs ns ds gs = record { values = vs; blocks = bs; lengths = ns; sums = ds; groups = gs }
 
 -- what is lent, with one of its parts as a call leaves it
 abbrev pub lentValues : Lent → List ℕ → Lent
-lentValues x vs = lent vs (x .blocks) (x .sums) (x .groups)
+lentValues x vs = lent vs (x .blocks) (x .lengths) (x .sums) (x .groups)
 
-abbrev pub lentBlocks : Lent → List ℕ → Lent
-lentBlocks x bs = lent (x .values) bs (x .sums) (x .groups)
+abbrev pub lentBlocks : Lent → (blocks lengths : List ℕ) → Lent
+lentBlocks x bs ns = lent (x .values) bs ns (x .sums) (x .groups)
 
 abbrev pub lentSums : Lent → List ℕ → Lent
-lentSums x ds = lent (x .values) (x .blocks) ds (x .groups)
+lentSums x ds = lent (x .values) (x .blocks) (x .lengths) ds (x .groups)
 
 abbrev pub lentGroups : Lent → List ℕ → Lent
-lentGroups x gs = lent (x .values) (x .blocks) (x .sums) gs
+lentGroups x gs = lent (x .values) (x .blocks) (x .lengths) (x .sums) gs

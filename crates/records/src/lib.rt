@@ -9,7 +9,7 @@ ghost use Prim.Native.Nat.{_≤_, _<_};
 ghost use lib.ListN.{length, take, getD};
 ghost use Rattle.bsmp.specs.Base.{every};
 ghost use Rattle.bsmp.specs.Board.{isType, blankCurve, blankFunction, usableCurves};
-ghost use Rattle.records.specs.Lending.{writableMarks, curvesOf, functionsOf, newGroupOf, curveBytes};
+ghost use Rattle.records.specs.Lending.{writableMarks, curvesOf, functionsOf, newGroupOf, beforeOf};
 
 // The variable records by columns; of the places from `count` on, nothing counts.
 pub struct Records {
@@ -31,6 +31,12 @@ pub struct NewGroup {
     pub count: u64,
     pub place: usize,
     pub set: u64,
+}
+
+// What stands before a curve: in the lengths so many blocks, in the curve store so many bytes.
+pub struct Before {
+    pub blocks: usize,
+    pub bytes: usize,
 }
 
 // The writable variables as marks, by their types, from the last to the first.
@@ -75,20 +81,23 @@ pub fn curve_at(curves: &[u32], c: CurveNumber) -> Curve
     }
 }
 
-// Where curve c starts in the curve store: the bytes of all blocks of the curves before it.
-pub fn blocks_before(curves: &[u32], c: CurveNumber) -> usize
+// Where curve c starts: all blocks of the curves before it, and their bytes.
+pub fn before(curves: &[u32], c: CurveNumber) -> Before
     requires { ⌜ (usableCurves (curvesOf (now curves)) ≡ true) × (c .0 ≤ length (curvesOf (now curves))) ⌝ }
-    ensures { λ r. ⌜ r ≡ curveBytes (take (c .0) (curvesOf (now (curves .entry)))) ⌝ }
+    ensures { λ r. ⌜ r ≡ beforeOf (take (c .0) (curvesOf (now (curves .entry)))) ⌝ }
 {
     let n = c.0;
-    let mut total: usize = 0;
+    let mut blocks: usize = 0;
+    let mut bytes: usize = 0;
     let mut i = 0;
     while i < n {
-        let before = curve_at(curves, CurveNumber(i));
-        total += before.size as usize * before.blocks as usize;
+        let curve = curve_at(curves, CurveNumber(i));
+        let count = curve.blocks as usize;
+        blocks += count;
+        bytes += curve.size as usize * count;
         i += 1;
     }
-    total
+    Before { blocks, bytes }
 }
 
 // How many function records are lent, a broken one at the end included.

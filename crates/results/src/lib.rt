@@ -1,4 +1,4 @@
-// Three entries of a board, with nothing asked of the caller: a function's result, a board store, and a fresh board's sums.
+// Three entries of a board, with nothing asked of the caller: a function's result, a board store, and a fresh board's lengths and sums.
 use bsmp::FunctionNumber;
 use bsmp::Outcome;
 use bsmp::Refusal;
@@ -51,6 +51,7 @@ fn judge_result(
     sets: &[u64; 5],
     values: &[u8],
     blocks: &[u8],
+    lengths: &[u16],
     sums: &[u8],
     function: FunctionNumber,
     ran: Ran,
@@ -60,7 +61,7 @@ fn judge_result(
     ensures { λ r. let records = recordsBy count (now (writable .entry)) (now (sizes .entry)) (now (kinds .entry)) in
         let table = tableOf records (now (curves .entry)) (now (functions .entry)) in
         let groups = groupsOf (groupsBy made (now (sets .entry))) in
-        let state = held (layout table) (lent (now (values .entry)) (now (blocks .entry)) (now (sums .entry)) groups) in
+        let state = held (layout table) (lent (now (values .entry)) (now (blocks .entry)) (now (lengths .entry)) (now (sums .entry)) groups) in
         ⌜ r ≡ first (faults table state) Refuse (first (resultTests (layout table) room function (ranOf ran (now (output .entry)))) Refuse Pass) ⌝ }
 {
     let usable = boards::usable_board(
@@ -74,6 +75,7 @@ fn judge_result(
         sets,
         values,
         blocks,
+        lengths,
         sums,
     );
     if !usable {
@@ -126,6 +128,7 @@ pub fn function_result(
     sets: &[u64; 5],
     values: &[u8],
     blocks: &[u8],
+    lengths: &[u16],
     sums: &[u8],
     function: FunctionNumber,
     due: bool,
@@ -136,7 +139,7 @@ pub fn function_result(
     ensures { λ r. let records = recordsBy count (now (writable .entry)) (now (sizes .entry)) (now (kinds .entry)) in
         let table = tableOf records (now (curves .entry)) (now (functions .entry)) in
         let groups = groupsOf (groupsBy made (now (sets .entry))) in
-        let state = held (layout table) (lent (now (values .entry)) (now (blocks .entry)) (now (sums .entry)) groups) in
+        let state = held (layout table) (lent (now (values .entry)) (now (blocks .entry)) (now (lengths .entry)) (now (sums .entry)) groups) in
         let was = now (reply .entry) in
         ⌜ resultLeft r (now (reply .exit))
         ≡ resultLeftOf (functionResult table (length was) function due (ranOf ran (now (output .entry))) state .ending) was ⌝ }
@@ -153,6 +156,7 @@ pub fn function_result(
         sets,
         values,
         blocks,
+        lengths,
         sums,
         function,
         ran,
@@ -182,6 +186,7 @@ fn judge_store(
     sets: &[u64; 5],
     values: &[u8],
     blocks: &[u8],
+    lengths: &[u16],
     sums: &[u8],
     variable: VariableNumber,
     bytes: &[u8],
@@ -189,7 +194,7 @@ fn judge_store(
     ensures { λ r. let records = recordsBy count (now (writable .entry)) (now (sizes .entry)) (now (kinds .entry)) in
         let table = tableOf records (now (curves .entry)) (now (functions .entry)) in
         let groups = groupsOf (groupsBy made (now (sets .entry))) in
-        let state = held (layout table) (lent (now (values .entry)) (now (blocks .entry)) (now (sums .entry)) groups) in
+        let state = held (layout table) (lent (now (values .entry)) (now (blocks .entry)) (now (lengths .entry)) (now (sums .entry)) groups) in
         ⌜ r ≡ first (faults table state) Refuse (first (storeTests (layout table) variable (now (bytes .entry))) Refuse Pass) ⌝ }
 {
     let usable = boards::usable_board(
@@ -203,6 +208,7 @@ fn judge_store(
         sets,
         values,
         blocks,
+        lengths,
         sums,
     );
     if !usable {
@@ -231,6 +237,7 @@ pub fn board_store(
     sets: &[u64; 5],
     values: &mut [u8],
     blocks: &[u8],
+    lengths: &[u16],
     sums: &[u8],
     variable: VariableNumber,
     bytes: &[u8],
@@ -238,7 +245,7 @@ pub fn board_store(
     ensures { λ r. let records = recordsBy count (now (writable .entry)) (now (sizes .entry)) (now (kinds .entry)) in
         let table = tableOf records (now (curves .entry)) (now (functions .entry)) in
         let groups = groupsOf (groupsBy made (now (sets .entry))) in
-        let state = held (layout table) (lent (now (values .entry)) (now (blocks .entry)) (now (sums .entry)) groups) in
+        let state = held (layout table) (lent (now (values .entry)) (now (blocks .entry)) (now (lengths .entry)) (now (sums .entry)) groups) in
         ⌜ storeLeft r (now (values .exit)) ≡ storeLeftOf (boardStore table variable (now (bytes .entry)) state) ⌝ }
 {
     let judged = judge_store(
@@ -252,6 +259,7 @@ pub fn board_store(
         sets,
         values,
         blocks,
+        lengths,
         sums,
         variable,
         bytes,
@@ -266,7 +274,7 @@ pub fn board_store(
     }
 }
 
-// A fresh board's sums, worked out from its curves. Nothing but the sums is written.
+// A fresh board: its blocks full, and its sums worked out. Nothing but lengths and sums is written.
 pub fn fresh_board(
     count: usize,
     writable: &[u8; 64],
@@ -278,15 +286,16 @@ pub fn fresh_board(
     sets: &[u64; 5],
     values: &[u8],
     blocks: &[u8],
+    lengths: &mut [u16],
     sums: &mut [u8],
 ) -> Stored
     ensures { λ r. let records = recordsBy count (now (writable .entry)) (now (sizes .entry)) (now (kinds .entry)) in
         let table = tableOf records (now (curves .entry)) (now (functions .entry)) in
         let groups = groupsOf (groupsBy made (now (sets .entry))) in
-        let state = held (layout table) (lent (now (values .entry)) (now (blocks .entry)) (now (sums .entry)) groups) in
-        ⌜ freshLeft r (now (sums .exit)) ≡ freshLeftOf (freshBoard table state) ⌝ }
+        let state = held (layout table) (lent (now (values .entry)) (now (blocks .entry)) (now (lengths .entry)) (now (sums .entry)) groups) in
+        ⌜ freshLeft r (now (lengths .exit)) (now (sums .exit)) ≡ freshLeftOf (freshBoard table state) ⌝ }
 {
-    let usable = boards::usable_board(
+    let usable = boards::freshable_board(
         count,
         writable,
         sizes,
@@ -297,11 +306,12 @@ pub fn fresh_board(
         sets,
         values,
         blocks,
+        lengths,
         sums,
     );
     if !usable {
         return Stored::Refused(Refusal::BoardUnusable);
     }
-    curves::renew_all(curves, blocks, sums);
+    curves::fresh(curves, blocks, lengths, sums);
     Stored::Done
 }

@@ -6,7 +6,7 @@ ghost use mathlib.Core.Bool.{true, _&&_};
 ghost use mathlib.Core.List.{[], _∷_};
 ghost use Prim.Native.Nat.{_^_};
 ghost use lib.Dec.{eqb, ltb};
-ghost use Rattle.bsmp.specs.Base.{some, within};
+ghost use Rattle.bsmp.specs.Base.{every, some, within};
 ghost use Rattle.bsmp.specs.Codes.{kindOf};
 ghost use Rattle.bsmp.specs.Board.{fitsKind, usableVariable, usableCurve, usableFunctions, usableGroups};
 ghost use Rattle.records.specs.Lending.{recordsBy, recordsOf, curvesOf, functionsOf, groupsBy, groupsOf};
@@ -22,6 +22,21 @@ impl Total {
     pub const REFUSED: Total = Total {
         usable: false,
         bytes: 0,
+    };
+}
+
+// The same of curve records, with how many blocks they have.
+pub struct CurveTotal {
+    pub usable: bool,
+    pub bytes: u32,
+    pub blocks: u32,
+}
+
+impl CurveTotal {
+    pub const REFUSED: CurveTotal = CurveTotal {
+        usable: false,
+        bytes: 0,
+        blocks: 0,
     };
 }
 
@@ -107,14 +122,15 @@ fn usable_curve(c: Curve) -> bool
 
 // The rules of the curve records, with what their blocks add up to; each is tested before it counts, so that the sum fits. A record that
 // is cut off breaks them.
-pub fn usable_curves(curves: &[u32]) -> Total
+pub fn usable_curves(curves: &[u32]) -> CurveTotal
     ensures { λ r. ⌜ r ≡ curvesTotal (curvesOf (now (curves .entry))) ⌝ }
 {
     let n = curves.len();
     if 24 < n {
-        return Total::REFUSED;
+        return CurveTotal::REFUSED;
     }
     let mut bytes: u32 = 0;
+    let mut blocks: u32 = 0;
     let mut i = 0;
     while i + 2 < n {
         let c = Curve {
@@ -123,21 +139,37 @@ pub fn usable_curves(curves: &[u32]) -> Total
             blocks: curves[i + 2],
         };
         if !usable_curve(c) {
-            return Total::REFUSED;
+            return CurveTotal::REFUSED;
         }
         bytes += c.size * c.blocks;
+        blocks += c.blocks;
         i += 3;
     }
     if i != n {
-        return Total::REFUSED;
+        return CurveTotal::REFUSED;
     }
     if 65536 < bytes {
-        return Total::REFUSED;
+        return CurveTotal::REFUSED;
     }
-    Total {
+    CurveTotal {
         usable: true,
         bytes,
+        blocks,
     }
+}
+
+// The lengths of blocks of this size: without branches, so that the compiler can test many at once.
+pub fn fitting(lengths: &[u16], size: u16) -> bool
+    ensures { λ r. ⌜ r ≡ every (within 1 size) (now (lengths .entry)) ⌝ }
+{
+    let n = lengths.len();
+    let mut fitting = true;
+    let mut i = 0;
+    while i < n {
+        fitting = fitting & (1 <= lengths[i]) & (lengths[i] <= size);
+        i += 1;
+    }
+    fitting
 }
 
 // The rules of the function records, of all bytes at once: no bit of theirs is above the four of 15. A record that is cut off breaks them.

@@ -77,14 +77,15 @@ fn carry_out(
     groups: &[u64],
     values: &mut [u8],
     blocks: &mut [u8],
+    lengths: &mut [u16],
     sums: &mut [u8],
     message: &[u8],
 ) -> Regroup
-    requires { ⌜ SoundBoard (lentLayout (now sizes) writable (now curves) (now functions)) (lent (now values) (now blocks) (now sums) (now groups)) ⌝ }
+    requires { ⌜ SoundBoard (lentLayout (now sizes) writable (now curves) (now functions)) (lent (now values) (now blocks) (now lengths) (now sums) (now groups)) ⌝ }
     requires { ⌜ Judged (lentLayout (now sizes) writable (now curves) (now functions)) (now groups) (now message) (verdict .command) (verdict .check) ⌝ }
     ensures { λ r. let l = lentLayout (now (sizes .entry)) writable (now (curves .entry)) (now (functions .entry)) in
-        let x = lent (now (values .entry)) (now (blocks .entry)) (now (sums .entry)) (now (groups .entry)) in
-        let y = lent (now (values .exit)) (now (blocks .exit)) (now (sums .exit)) (now (groups .entry)) in
+        let x = lent (now (values .entry)) (now (blocks .entry)) (now (lengths .entry)) (now (sums .entry)) (now (groups .entry)) in
+        let y = lent (now (values .exit)) (now (blocks .exit)) (now (lengths .exit)) (now (sums .exit)) (now (groups .entry)) in
         ⌜ CarriedOut l (now (message .entry)) (verdict .check) x r y ⌝ }
 {
     let command = verdict.command;
@@ -99,6 +100,7 @@ fn carry_out(
             groups,
             values,
             blocks,
+            lengths,
             sums,
             &message[3..],
         ),
@@ -117,16 +119,17 @@ fn respond(
     groups: &[u64],
     values: &[u8],
     blocks: &[u8],
+    lengths: &[u16],
     sums: &[u8],
     message: &[u8],
     reply: &mut [u8],
     at: usize,
 ) -> Spoken
     requires { let l = lentLayout (now sizes) writable (now curves) (now functions) in
-        ⌜ SoundBoard l (lent (now values) (now blocks) (now sums) (now groups)) × (at + 4099 ≤ length (now reply)) ⌝ }
+        ⌜ SoundBoard l (lent (now values) (now blocks) (now lengths) (now sums) (now groups)) × (at + 4099 ≤ length (now reply)) ⌝ }
     requires { ⌜ Judged (lentLayout (now sizes) writable (now curves) (now functions)) (now groups) (now message) command v ⌝ }
     ensures { λ r. let l = lentLayout (now (sizes .entry)) writable (now (curves .entry)) (now (functions .entry)) in
-        let x = lent (now (values .entry)) (now (blocks .entry)) (now (sums .entry)) (now (groups .entry)) in
+        let x = lent (now (values .entry)) (now (blocks .entry)) (now (lengths .entry)) (now (sums .entry)) (now (groups .entry)) in
         let says = said (asked l (x .groups) (now (message .entry))) v (held l x) in
         ⌜ Spoke true says (now (reply .entry)) at r (now (reply .exit)) ⌝ }
 {
@@ -140,6 +143,7 @@ fn respond(
             groups,
             values,
             blocks,
+            lengths,
             sums,
             &message[3..],
             reply,
@@ -203,16 +207,17 @@ fn say(
     groups: &[u64],
     values: &[u8],
     blocks: &[u8],
+    lengths: &[u16],
     sums: &[u8],
     message: &[u8],
     reply: &mut [u8],
     at: usize,
 ) -> Spoken
     requires { let l = lentLayout (now sizes) writable (now curves) (now functions) in
-        ⌜ SoundBoard l (lent (now values) (now blocks) (now sums) (now groups)) × (at + 4099 ≤ length (now reply)) ⌝ }
+        ⌜ SoundBoard l (lent (now values) (now blocks) (now lengths) (now sums) (now groups)) × (at + 4099 ≤ length (now reply)) ⌝ }
     requires { ⌜ Judged (lentLayout (now sizes) writable (now curves) (now functions)) (now groups) (now message) (verdict .command) (verdict .check) ⌝ }
     ensures { λ r. let l = lentLayout (now (sizes .entry)) writable (now (curves .entry)) (now (functions .entry)) in
-        let x = lent (now (values .entry)) (now (blocks .entry)) (now (sums .entry)) (now (groups .entry)) in
+        let x = lent (now (values .entry)) (now (blocks .entry)) (now (lengths .entry)) (now (sums .entry)) (now (groups .entry)) in
         let says = said (asked l (x .groups) (now (message .entry))) (verdict .check) (held l x) in
         ⌜ Spoke due says (now (reply .entry)) at r (now (reply .exit)) ⌝ }
 {
@@ -229,6 +234,7 @@ fn say(
             groups,
             values,
             blocks,
+            lengths,
             sums,
             message,
             reply,
@@ -249,17 +255,18 @@ fn fulfil(
     groups: &[u64],
     values: &mut [u8],
     blocks: &mut [u8],
+    lengths: &mut [u16],
     sums: &mut [u8],
     message: &[u8],
     reply: &mut [u8],
     at: usize,
 ) -> Served
     requires { let l = lentLayout (now sizes) writable (now curves) (now functions) in
-        ⌜ SoundBoard l (lent (now values) (now blocks) (now sums) (now groups)) × (at + 4099 ≤ length (now reply)) ⌝ }
+        ⌜ SoundBoard l (lent (now values) (now blocks) (now lengths) (now sums) (now groups)) × (at + 4099 ≤ length (now reply)) ⌝ }
     requires { ⌜ Judged (lentLayout (now sizes) writable (now curves) (now functions)) (now groups) (now message) (verdict .command) (verdict .check) ⌝ }
     ensures { λ r. let l = lentLayout (now (sizes .entry)) writable (now (curves .entry)) (now (functions .entry)) in
-        let x = lent (now (values .entry)) (now (blocks .entry)) (now (sums .entry)) (now (groups .entry)) in
-        let y = lent (now (values .exit)) (now (blocks .exit)) (now (sums .exit)) (now (groups .entry)) in
+        let x = lent (now (values .entry)) (now (blocks .entry)) (now (lengths .entry)) (now (sums .entry)) (now (groups .entry)) in
+        let y = lent (now (values .exit)) (now (blocks .exit)) (now (lengths .exit)) (now (sums .exit)) (now (groups .entry)) in
         let m = now (message .entry) in
         ⌜ Fulfilled due l m (verdict .check) x (now (reply .entry)) at (r .said) (r .regroup) (now (reply .exit)) y ⌝ }
 {
@@ -272,6 +279,7 @@ fn fulfil(
         groups,
         values,
         blocks,
+        lengths,
         sums,
         message,
     );
@@ -285,6 +293,7 @@ fn fulfil(
         groups,
         values,
         blocks,
+        lengths,
         sums,
         message,
         reply,
@@ -303,6 +312,7 @@ pub fn serve(
     groups: &[u64],
     values: &mut [u8],
     blocks: &mut [u8],
+    lengths: &mut [u16],
     sums: &mut [u8],
     message: &[u8],
     busy: u64,
@@ -310,11 +320,11 @@ pub fn serve(
     at: usize,
 ) -> Served
     requires { let l = typedLayout (now sizes) (now types) (now curves) (now functions) in
-        ⌜ SoundBoard l (lent (now values) (now blocks) (now sums) (now groups)) × SoundTypes (now types) ⌝ }
+        ⌜ SoundBoard l (lent (now values) (now blocks) (now lengths) (now sums) (now groups)) × SoundTypes (now types) ⌝ }
     requires { ⌜ at + 4099 ≤ length (now reply) ⌝ }
     ensures { λ r. let l = typedLayout (now (sizes .entry)) (now (types .entry)) (now (curves .entry)) (now (functions .entry)) in
-        let x = lent (now (values .entry)) (now (blocks .entry)) (now (sums .entry)) (now (groups .entry)) in
-        let y = lent (now (values .exit)) (now (blocks .exit)) (now (sums .exit)) (now (groups .entry)) in
+        let x = lent (now (values .entry)) (now (blocks .entry)) (now (lengths .entry)) (now (sums .entry)) (now (groups .entry)) in
+        let y = lent (now (values .exit)) (now (blocks .exit)) (now (lengths .exit)) (now (sums .exit)) (now (groups .entry)) in
         ⌜ ServedAs due l busy (now (message .entry)) x (now (reply .entry)) at (r .said) (r .regroup) (now (reply .exit)) y ⌝ }
 {
     let command = judging::command_of(message);
@@ -339,6 +349,7 @@ pub fn serve(
         groups,
         values,
         blocks,
+        lengths,
         sums,
         message,
         reply,
