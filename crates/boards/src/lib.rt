@@ -1,6 +1,7 @@
 // Refusal 1 for the whole board: its records, the sizes of its stores and its sums, its blocks' lengths, its groups.
 use bsmp::CurveNumber;
 use bsmp::Variable;
+use rules::CurveTotal;
 ghost use mathlib.Core.Path.{_≡_};
 ghost use mathlib.Core.Bool.{true, _&&_};
 ghost use Prim.Native.Nat.{_+_, _-_, _*_, _%_, _≤_};
@@ -114,9 +115,9 @@ fn each_summed(curves: &[u32], sums: &[u8]) -> bool
     sums.len() / 16 * 3 == curves.len()
 }
 
-// Whether each block's length is 1 to its size.
-fn fit_lengths(curves: &[u32], lengths: &[u16]) -> bool
-    requires { ⌜ (usableCurves (curvesOf (now curves)) ≡ true) × (length (now lengths) ≡ length (blockSizes (curvesOf (now curves)))) ⌝ }
+// Whether each block's length is 1 to its size, curve after curve.
+fn fitting_curves(curves: &[u32], lengths: &[u16]) -> bool
+    requires { ⌜ (usableCurves (curvesOf (now curves)) ≡ true) × (length (now lengths) ≡ curveBlocks (curvesOf (now curves))) ⌝ }
     ensures { λ r. ⌜ r ≡ fitting (blockSizes (curvesOf (now (curves .entry)))) (now (lengths .entry)) ⌝ }
 {
     let n = records::curve_count(curves);
@@ -134,7 +135,67 @@ fn fit_lengths(curves: &[u32], lengths: &[u16]) -> bool
     true
 }
 
-// Every rule but what lengths there are, one after another: of a board that is to be fresh.
+// Whether there is a length for each block of usable curves, 1 to its size. Where all blocks have one size they are tested in one walk.
+fn fitting_lengths(curves: &[u32], total: CurveTotal, lengths: &[u16]) -> bool
+    requires { ⌜ (total ≡ curvesTotal (curvesOf (now curves))) × (total .usable ≡ true) ⌝ }
+    ensures { λ r. ⌜ r ≡ fitting (blockSizes (curvesOf (now (curves .entry)))) (now (lengths .entry)) ⌝ }
+{
+    if total.blocks as usize != lengths.len() {
+        return false;
+    }
+    if 0 < total.size {
+        return rules::fitting(lengths, total.size as u16);
+    }
+    fitting_curves(curves, lengths)
+}
+
+// Every rule but that of the lengths, one after another, with what the curves add up to.
+fn whole_board(
+    count: usize,
+    writable: &[u8; 64],
+    sizes: &[u8; 64],
+    kinds: &[u8; 64],
+    curves: &[u32],
+    functions: &[u8],
+    made: u64,
+    sets: &[u64; 5],
+    values: &[u8],
+    blocks: &[u8],
+    sums: &[u8],
+) -> CurveTotal
+    ensures { λ r. let records = recordsBy count (now (writable .entry)) (now (sizes .entry)) (now (kinds .entry)) in
+        let t = tableOf records (now (curves .entry)) (now (functions .entry)) in
+        let groups = groupsOf (groupsBy made (now (sets .entry))) in
+        let x = lent (now (values .entry)) (now (blocks .entry)) [] (now (sums .entry)) groups in
+        ⌜ r ≡ wholeTotal t (held (layout t) x) ⌝ }
+{
+    if !each_summed(curves, sums) {
+        return CurveTotal::REFUSED;
+    }
+    let variables_total = rules::usable_records(count, writable, sizes, kinds);
+    if !variables_total.usable {
+        return CurveTotal::REFUSED;
+    }
+    if variables_total.bytes as usize != values.len() {
+        return CurveTotal::REFUSED;
+    }
+    let total = rules::usable_curves(curves);
+    if !total.usable {
+        return CurveTotal::REFUSED;
+    }
+    if total.bytes as usize != blocks.len() {
+        return CurveTotal::REFUSED;
+    }
+    if !rules::usable_functions(functions) {
+        return CurveTotal::REFUSED;
+    }
+    if !rules::usable_groups(made, sets, count) {
+        return CurveTotal::REFUSED;
+    }
+    total
+}
+
+// Every rule of a board that is to be fresh: a length for each block, whatever stands there.
 pub fn freshable_board(
     count: usize,
     writable: &[u8; 64],
@@ -155,30 +216,23 @@ pub fn freshable_board(
         let x = lent (now (values .entry)) (now (blocks .entry)) (now (lengths .entry)) (now (sums .entry)) groups in
         ⌜ r ≡ usable t (full (layout t) (held (layout t) x)) ⌝ }
 {
-    if !each_summed(curves, sums) {
+    let total = whole_board(
+        count,
+        writable,
+        sizes,
+        kinds,
+        curves,
+        functions,
+        made,
+        sets,
+        values,
+        blocks,
+        sums,
+    );
+    if !total.usable {
         return false;
     }
-    let variables_total = rules::usable_records(count, writable, sizes, kinds);
-    if !variables_total.usable {
-        return false;
-    }
-    if variables_total.bytes as usize != values.len() {
-        return false;
-    }
-    let curves_total = rules::usable_curves(curves);
-    if !curves_total.usable {
-        return false;
-    }
-    if curves_total.bytes as usize != blocks.len() {
-        return false;
-    }
-    if curves_total.blocks as usize != lengths.len() {
-        return false;
-    }
-    if !rules::usable_functions(functions) {
-        return false;
-    }
-    rules::usable_groups(made, sets, count)
+    total.blocks as usize == lengths.len()
 }
 
 // Every rule.
@@ -202,7 +256,7 @@ pub fn usable_board(
         let x = lent (now (values .entry)) (now (blocks .entry)) (now (lengths .entry)) (now (sums .entry)) groups in
         ⌜ r ≡ usable t (held (layout t) x) ⌝ }
 {
-    let freshable = freshable_board(
+    let total = whole_board(
         count,
         writable,
         sizes,
@@ -213,13 +267,12 @@ pub fn usable_board(
         sets,
         values,
         blocks,
-        lengths,
         sums,
     );
-    if !freshable {
+    if !total.usable {
         return false;
     }
-    fit_lengths(curves, lengths)
+    fitting_lengths(curves, total, lengths)
 }
 
 // The same as `usable_board`, for packets: it has one caller, since the compiler takes only such a function into the entry whole.
@@ -249,17 +302,14 @@ pub fn quick_board(
     if !quick_variables(count, writable, sizes, kinds, values.len()) {
         return false;
     }
-    let curves_total = rules::usable_curves(curves);
-    if !curves_total.usable {
+    let total = rules::usable_curves(curves);
+    if !total.usable {
         return false;
     }
-    if curves_total.bytes as usize != blocks.len() {
+    if total.bytes as usize != blocks.len() {
         return false;
     }
-    if curves_total.blocks as usize != lengths.len() {
-        return false;
-    }
-    if !fit_lengths(curves, lengths) {
+    if !fitting_lengths(curves, total, lengths) {
         return false;
     }
     if !rules::usable_groups(made, sets, count) {

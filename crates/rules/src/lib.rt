@@ -2,10 +2,11 @@
 use bsmp::Curve;
 use bsmp::Variable;
 ghost use mathlib.Core.Path.{_≡_};
-ghost use mathlib.Core.Bool.{true, _&&_};
+ghost use mathlib.Core.Bool.{true, cond, _&&_};
 ghost use mathlib.Core.List.{[], _∷_};
 ghost use Prim.Native.Nat.{_^_};
 ghost use lib.Dec.{eqb, ltb};
+ghost use lib.ListN.{getD};
 ghost use Rattle.bsmp.specs.Base.{every, some, within};
 ghost use Rattle.bsmp.specs.Codes.{kindOf};
 ghost use Rattle.bsmp.specs.Board.{fitsKind, usableVariable, usableCurve, usableFunctions, usableGroups};
@@ -25,11 +26,12 @@ impl Total {
     };
 }
 
-// The same of curve records, with how many blocks they have.
+// The same of curve records, with how many blocks they have and the block size that all of them have, or 0 if there is none.
 pub struct CurveTotal {
     pub usable: bool,
     pub bytes: u32,
     pub blocks: u32,
+    pub size: u32,
 }
 
 impl CurveTotal {
@@ -37,6 +39,7 @@ impl CurveTotal {
         usable: false,
         bytes: 0,
         blocks: 0,
+        size: 0,
     };
 }
 
@@ -120,6 +123,26 @@ fn usable_curve(c: Curve) -> bool
     c.blocks <= 65536
 }
 
+// The size of the first curve's blocks.
+fn first_size(curves: &[u32]) -> u32
+    ensures { λ r. ⌜ r ≡ getD (now (curves .entry)) 1 0 ⌝ }
+{
+    if curves.len() < 2 {
+        return 0;
+    }
+    curves[1]
+}
+
+// That size, if it is the others' too.
+fn common(alike: bool, size: u32) -> u32
+    ensures { λ r. ⌜ r ≡ cond alike size 0 ⌝ }
+{
+    if alike {
+        return size;
+    }
+    0
+}
+
 // The rules of the curve records, with what their blocks add up to; each is tested before it counts, so that the sum fits. A record that
 // is cut off breaks them.
 pub fn usable_curves(curves: &[u32]) -> CurveTotal
@@ -129,6 +152,8 @@ pub fn usable_curves(curves: &[u32]) -> CurveTotal
     if 24 < n {
         return CurveTotal::REFUSED;
     }
+    let size = first_size(curves);
+    let mut alike = true;
     let mut bytes: u32 = 0;
     let mut blocks: u32 = 0;
     let mut i = 0;
@@ -141,6 +166,7 @@ pub fn usable_curves(curves: &[u32]) -> CurveTotal
         if !usable_curve(c) {
             return CurveTotal::REFUSED;
         }
+        alike = alike & (c.size == size);
         bytes += c.size * c.blocks;
         blocks += c.blocks;
         i += 3;
@@ -155,10 +181,11 @@ pub fn usable_curves(curves: &[u32]) -> CurveTotal
         usable: true,
         bytes,
         blocks,
+        size: common(alike, size),
     }
 }
 
-// The lengths of blocks of this size: without branches, so that the compiler can test many at once.
+// The lengths of blocks of one size, without branches, so that the compiler tests many at once.
 pub fn fitting(lengths: &[u16], size: u16) -> bool
     ensures { λ r. ⌜ r ≡ every (within 1 size) (now (lengths .entry)) ⌝ }
 {
