@@ -1,12 +1,13 @@
--- What the commands of curves ask of a board and of a payload, the block that a payload names, and the sums. Assumes nothing.
+-- What the commands of curves ask of a board and of a payload, the block that a payload names, what blocks hold, and the sums. Assumes nothing.
 use mathlib.Core.Path.{_≡_}
 use mathlib.Core.Bool.{true}
-use mathlib.Core.List.{List, [], map}
+use mathlib.Core.List.{List, [], _∷_, _++_, map}
 use Prim.Native.Nat.{ℕ, _+_, _-_, _*_, _≤_, _<_}
+use lib.Dec.{leb}
 use lib.ListN.{length, take, drop, getD}
 use Rattle.md5.specs.Md5.{digest}
-use Rattle.bsmp.specs.Base.{sum, join, upFrom, cut, byteAt, wordAt}
-use Rattle.bsmp.specs.Board.{curve, curveOf, blockSizes, sumSizes, blockPlace, usableCurves}
+use Rattle.bsmp.specs.Base.{sum, every, join, upFrom, cut, byteAt, wordAt}
+use Rattle.bsmp.specs.Board.{curve, curveOf, blockSizes, sumSizes, blockPlace, fitting, usableCurves}
 use Rattle.bsmp.specs.Store.{start}
 use Rattle.bsmp.specs.Message.{curveAt}
 use Rattle.bsmp.specs.declared.CurveNumber.{CurveNumber}
@@ -20,6 +21,10 @@ use Rattle.curves.specs.declared.Content.{Content}
 pub record SoundCurves (cs : List Curve) (store : List ℕ) : Type 0 where
   pub usable : usableCurves cs ≡ true
   pub exact : length store ≡ sum (blockSizes cs)
+
+-- a length for each block, 1 to its size
+pub record SoundLengths (cs : List Curve) (lengths : List ℕ) : Type 0 where
+  pub fit : fitting (blockSizes cs) lengths ≡ true
 
 -- the curve named first
 abbrev pub namedCurve : List Curve → (payload : List ℕ) → Curve
@@ -52,14 +57,21 @@ placeOf cs p = blockPlace (curvesOnly cs) (curveAt p 0) (wordAt p 1)
 abbrev pub namedBlock : List Curve → (store payload : List ℕ) → List ℕ
 namedBlock cs store p = getD (blocksIn cs store) (placeOf cs p) []
 
--- where it stands in the store: inside, and no longer than 01 allows
+-- what a block holds: as many of its first bytes as its length says
+abbrev pub contentAt : List Curve → (store lengths : List ℕ) → ℕ → List ℕ
+contentAt cs store lengths k = take (getD lengths k 0) (getD (blocksIn cs store) k [])
+
+abbrev pub namedContent : List Curve → (store lengths payload : List ℕ) → List ℕ
+namedContent cs store lengths p = contentAt cs store lengths (placeOf cs p)
+
+-- where the block named stands in the store: inside, and no longer than 01 allows
 pub record BlockAt (cs : List Curve) (payload : List ℕ) (b : Block) : Type 0 where
-  pub place : placeOf cs payload < length (blockSizes cs)
+  pub place : b .place ≡ placeOf cs payload
+  pub below : placeOf cs payload < length (blockSizes cs)
   pub at : b .at ≡ start (blockSizes cs) (placeOf cs payload)
-  pub size : b .size ≡ getD (blockSizes cs) (placeOf cs payload) 0
-  pub own : b .size ≡ namedCurve cs payload .size
-  pub inside : b .at + b .size ≤ sum (blockSizes cs)
-  pub small : b .size ≤ 4096
+  pub own : getD (blockSizes cs) (placeOf cs payload) 0 ≡ namedCurve cs payload .size
+  pub inside : b .at + namedCurve cs payload .size ≤ sum (blockSizes cs)
+  pub small : namedCurve cs payload .size ≤ 4096
 
 -- the sums: 16 bytes for each curve, one curve's after another's
 pub record SoundSums (cs : List Curve) (sums : List ℕ) : Type 0 where
@@ -82,16 +94,31 @@ pub record SumNamed (sums payload : List ℕ) : Type 0 where
   pub some : 0 < length payload
   pub inside : 16 * byteAt payload 0 + 16 ≤ length sums
 
--- what a curve holds: its blocks, one after another
-abbrev pub contentIn : List Curve → (store : List ℕ) → CurveNumber → List ℕ
-contentIn cs store c = join (take (curveOf (curvesOnly cs) c .blocks) (drop (blockPlace (curvesOnly cs) c 0) (blocksIn cs store)))
+-- what a curve holds: what its blocks hold, one after another
+abbrev pub contentIn : List Curve → (store lengths : List ℕ) → CurveNumber → List ℕ
+contentIn cs store lengths c = join (map (contentAt cs store lengths) (upFrom (blockPlace (curvesOnly cs) c 0) (curveOf (curvesOnly cs) c .blocks)))
 
--- where it stands in the store: inside, and from end to end
+-- the same of blocks of one size, with their lengths, in a store of their own
+unfoldable pub covered : (size : ℕ) → (lengths store : List ℕ) → List ℕ
+covered size [] store = []
+covered size (n ∷ ns) store = take n store ++ covered size ns (drop size store)
+
+pub record Blocks (size : ℕ) (lengths store : List ℕ) : Type 0 where
+  pub whole : length store ≡ size * length lengths
+  pub fit : every (λ n. leb n size) lengths ≡ true
+  pub small : length store ≤ 65536
+
+-- where a curve's blocks and lengths stand: inside, and from end to end
 pub record ContentAt (cs : List Curve) (c : CurveNumber) (x : Content) : Type 0 where
   pub inside : x .to ≤ sum (blockSizes cs)
   pub ordered : x .from ≤ x .to
-  pub holds : (store : List ℕ) → part store (x .from) (x .to - x .from) ≡ contentIn cs store c
+  pub lengths-inside : x .end ≤ length (blockSizes cs)
+  pub lengths-ordered : x .first ≤ x .end
+  pub sound : (store lengths : List ℕ) → SoundCurves cs store → SoundLengths cs lengths
+      → Blocks (x .size) (part lengths (x .first) (x .end - x .first)) (part store (x .from) (x .to - x .from))
+  pub holds : (store lengths : List ℕ) → SoundCurves cs store → SoundLengths cs lengths
+      → covered (x .size) (part lengths (x .first) (x .end - x .first)) (part store (x .from) (x .to - x .from)) ≡ contentIn cs store lengths c
 
 -- the sums of the first n curves, worked out
-abbrev pub freshSums : List Curve → (store : List ℕ) → ℕ → List (List ℕ)
-freshSums cs store n = map (λ c. digest (contentIn cs store (curve c))) (upFrom 0 n)
+abbrev pub freshSums : List Curve → (store lengths : List ℕ) → ℕ → List (List ℕ)
+freshSums cs store lengths n = map (λ c. digest (contentIn cs store lengths (curve c))) (upFrom 0 n)

@@ -12,7 +12,7 @@ use Rattle.bsmp.specs.declared.Check.{Check}
 use Rattle.sets.specs.Promises.{Sound}
 use Rattle.parts.specs.Parts.{layoutOf}
 use Rattle.records.specs.Lending.{curvesOf, functionsOf}
-use Rattle.curves.specs.Fits.{SoundCurves, SoundSums}
+use Rattle.curves.specs.Fits.{SoundCurves, SoundLengths, SoundSums}
 
 -- the layout of what is lent: sizes, writable marks, and the flat numbers of curves and functions
 abbrev pub lentLayout : (sizes : List ℕ) → (writable : ℕ) → (curves functions : List ℕ) → Layout
@@ -23,6 +23,7 @@ pub record SoundBoard (l : Layout) (x : Lent) : Type 0 where
   pub variables : Sound (l .sizes) (x .values)
   pub sizes : every usableSize (l .sizes) ≡ true
   pub curves : SoundCurves (l .curves) (x .blocks)
+  pub lengths : SoundLengths (l .curves) (x .lengths)
   pub sums : SoundSums (l .curves) (x .sums)
   pub functions : usableFunctions (l .functions) ≡ true
   pub groups : length (x .groups) ≤ 5
