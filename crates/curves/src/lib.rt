@@ -95,7 +95,7 @@ impl Block {
     {
         let c = parts::curve_at(payload, 0);
         let size = records::curve_at(curves, c).size as usize;
-        let before = records::before(curves, c);
+        let before = records::curve_start(curves, c);
         let number = block_number(payload);
         Block {
             at: before.bytes + number * size,
@@ -177,7 +177,7 @@ impl Content {
         let curve = records::curve_at(curves, c);
         let size = curve.size as usize;
         let count = curve.blocks as usize;
-        let before = records::before(curves, c);
+        let before = records::curve_start(curves, c);
         let from = before.bytes;
         let first = before.blocks;
         Content {

@@ -17,27 +17,43 @@ use Rattle.bsmp.specs.declared.Curve.{Curve}
 use Rattle.bsmp.proofs.Store.{curve-bytes}
 use Rattle.lists.proofs.Sum.{total-append, total-within}
 use Rattle.lists.proofs.Blocks.{sum-replicate, block-start}
-use Rattle.records.specs.Lending.{curveBytes}
-use Rattle.records.proofs.Sound.{curves-small}
+use Rattle.records.specs.Lending.{curveBytes, curveBlocks, startOf}
+use Rattle.records.proofs.Sound.{curves-small, blocks-small}
 
-bytes-append : (xs ys : List Curve) → curveBytes (xs ++ ys) ≡ curveBytes xs + curveBytes ys
-bytes-append xs ys = ap sum (map-append (λ c. c .size * c .blocks) xs ys) ∙ total-append (map (λ c. c .size * c .blocks) xs) (map (λ c. c .size * c .blocks) ys)
+-- a number of each curve, added up: s before curve i, whose record is x; and so before the next
+module _ (g : Curve → ℕ) where
+  abbrev total : List Curve → ℕ
+  total cs = sum (map g cs)
 
--- s bytes before curve i of usable curves, whose record is x; and so before the next
+  parts : (xs ys : List Curve) → total (xs ++ ys) ≡ total xs + total ys
+  parts xs ys = ap sum (map-append g xs ys) ∙ total-append (map g xs) (map g ys)
+
+  module _ (cs : List Curve) (n i s : ℕ) (x : Curve) (l : n ≤ length cs) (h : i < n) (e : x ≡ getD cs i blankCurve) (q : s ≡ total (take i cs)) where
+    next : s + g x ≡ total (take (i + 1) cs)
+    unfolding sum
+    next =
+        let k : i < length cs = omega arith in
+        let o : total (take (i + 1) cs) ≡ total (take i cs) + total (x ∷ []) = rw (add-one, take-suc cs i blankCurve, e) (parts (take i cs) (getD cs i blankCurve ∷ [])) in
+        omega (arith, o)
+
+    within : s + g x ≤ total cs
+    within =
+        let o : total (take (i + 1) cs) + total (drop (i + 1) cs) ≡ total cs = sym (parts (take (i + 1) cs) (drop (i + 1) cs)) ∙ ap total (take-append-drop (i + 1) cs) in
+        omega (arith, o, next)
+
+abbrev blocksIn : Curve → ℕ
+blocksIn c = c .blocks
+
+abbrev bytesIn : Curve → ℕ
+bytesIn c = c .size * c .blocks
+
+-- of usable curves: k blocks and s bytes before curve i
 module _ (cs : List Curve) (n i s : ℕ) (x : Curve) (u : usableCurves cs ≡ true) (l : n ≤ length cs) (h : i < n) (e : x ≡ getD cs i blankCurve) (q : s ≡ curveBytes (take i cs)) where
   pub before-next : s + x .size * x .blocks ≡ curveBytes (take (i + 1) cs)
-  unfolding sum
-  before-next =
-      let k : i < length cs = omega arith in
-      let o : curveBytes (take (i + 1) cs) ≡ curveBytes (take i cs) + curveBytes (x ∷ []) =
-      rw (add-one, take-suc cs i blankCurve, e) (bytes-append (take i cs) (getD cs i blankCurve ∷ [])) in
-      omega (arith, o)
+  before-next = next bytesIn cs n i s x l h e q
 
   pub before-within : s + x .size * x .blocks ≤ curveBytes cs
-  before-within =
-      let o : curveBytes (take (i + 1) cs) + curveBytes (drop (i + 1) cs) ≡ curveBytes cs =
-      sym (bytes-append (take (i + 1) cs) (drop (i + 1) cs)) ∙ ap curveBytes (take-append-drop (i + 1) cs) in
-      omega (arith, o, before-next)
+  before-within = within bytesIn cs n i s x l h e q
 
   pub before-mul : Fits w64 (x .size * x .blocks)
   before-mul = record { fits = omega (arith, before-within, curves-small cs u) }
@@ -45,19 +61,29 @@ module _ (cs : List Curve) (n i s : ℕ) (x : Curve) (u : usableCurves cs ≡ tr
   pub before-add : Fits w64 (s + x .size * x .blocks)
   before-add = record { fits = omega (arith, before-within, curves-small cs u) }
 
-pub before-start : 0 ≡ curveBytes []
+module _ (cs : List Curve) (n i k : ℕ) (x : Curve) (u : usableCurves cs ≡ true) (l : n ≤ length cs) (h : i < n) (e : x ≡ getD cs i blankCurve) (q : k ≡ curveBlocks (take i cs)) where
+  pub blocks-next : k + x .blocks ≡ curveBlocks (take (i + 1) cs)
+  blocks-next = next blocksIn cs n i k x l h e q
+
+  pub blocks-within : k + x .blocks ≤ curveBlocks cs
+  blocks-within = within blocksIn cs n i k x l h e q
+
+  pub blocks-add : Fits w64 (k + x .blocks)
+  blocks-add = record { fits = omega (arith, blocks-within, blocks-small cs u) }
+
+pub before-start : 0 ≡ sum []
 unfolding sum
 before-start = refl
 
-pub before-end : (cs : List Curve) (n i s : ℕ) → i ≤ n → n ≤ i → s ≡ curveBytes (take i cs) → s ≡ curveBytes (take n cs)
-before-end cs n i s h k e = let o : n ≡ i = omega arith in rw o e
+pub before-end : (cs : List Curve) (n i k s : ℕ) → i ≤ n → n ≤ i → k ≡ curveBlocks (take i cs) → s ≡ curveBytes (take i cs) → record { blocks = k; bytes = s } ≡ startOf (take n cs)
+before-end cs n i k s a b e q = let o : n ≡ i = omega arith in rw (o, e, q)
 
 -- blocks
 blocks-append : (xs ys : List Curve) → blockSizes (xs ++ ys) ≡ blockSizes xs ++ blockSizes ys
 blocks-append [] ys = refl
 blocks-append (x ∷ xs) ys = ap (replicate (x .blocks) (x .size) ++_) (blocks-append xs ys) ∙ sym (append-assoc (replicate (x .blocks) (x .size)) (blockSizes xs) (blockSizes ys))
 
-block-count : (cs : List Curve) → length (blockSizes cs) ≡ sum (map (λ c. c .blocks) cs)
+pub block-count : (cs : List Curve) → length (blockSizes cs) ≡ sum (map (λ c. c .blocks) cs)
 unfolding sum
 block-count [] = refl
 block-count (c ∷ cs) = length-append (replicate (c .blocks) (c .size)) (blockSizes cs) ∙ ap₂ _+_ (length-replicate (c .blocks) (c .size)) (block-count cs)

@@ -1,13 +1,15 @@
 -- What a usable board lets its caller lean on: the bounds of 01's table. Assumes nothing.
 use mathlib.Core.Path.{_≡_}
 use mathlib.Core.Bool.{true}
-use mathlib.Core.List.{List}
-use Prim.Native.Nat.{ℕ, _^_, _≤_, _<_}
+use mathlib.Core.List.{List, [], _∷_}
+use Prim.Native.Nat.{ℕ, _+_, _*_, _^_, _≤_, _<_}
+use native.Mathlib.Omega.{arith}
+use native.Mathlib.Nat.{mul-le-mul-right}
 use lib.Dec.{leb}
 use lib.ListN.{length, getD}
 use borrow.Author.Tests.{leb-true, ltb-true}
 use Rattle.bsmp.specs.Base.{sum, every}
-use Rattle.bsmp.specs.Board.{Table, blankCurve, blankFunction, layout, sizesOf, blockSizes, sumSizes, usableVariable, variableRules, usableVariables, usableCurve, curveRules, usableCurves, usableFunctions, usableGroups, usable}
+use Rattle.bsmp.specs.Board.{Table, blankCurve, blankFunction, layout, sizesOf, blockSizes, fitting, sumSizes, usableVariable, variableRules, usableVariables, usableCurve, curveRules, usableCurves, usableFunctions, usableGroups, usable}
 use Rattle.bsmp.specs.Store.{Lent, held}
 use Rattle.bsmp.specs.declared.Variable.{Variable}
 use Rattle.bsmp.specs.declared.Curve.{Curve}
@@ -15,7 +17,7 @@ use Rattle.bsmp.specs.declared.Function.{Function}
 use Rattle.bsmp.proofs.Bools.{and-true, all-at}
 use Rattle.bsmp.proofs.Store.{store-length, lengths-cut}
 use Rattle.bsmp.proofs.Usable.{usable-parts, usable-whole}
-use Rattle.records.specs.Lending.{curveBytes}
+use Rattle.records.specs.Lending.{curveBytes, curveBlocks}
 use Rattle.bsmp.proofs.Lists.{every-at}
 use Rattle.records.proofs.Bounds.{inside, curve-rules, usableFunction, usableGroup}
 
@@ -24,6 +26,7 @@ pub record Sound (t : Table) (x : Lent) : Type 0 where
   pub values : length (x .values) ≡ sum (sizesOf (t .variables))
   pub curves : usableCurves (t .curves) ≡ true
   pub blocks : length (x .blocks) ≡ sum (blockSizes (t .curves))
+  pub lengths : fitting (blockSizes (t .curves)) (x .lengths) ≡ true
   pub sums : length (x .sums) ≡ sum (sumSizes (t .curves))
   pub functions : usableFunctions (t .functions) ≡ true
   pub groups : usableGroups (length (t .variables)) (x .groups) ≡ true
@@ -36,6 +39,7 @@ usable-sound t x u =
       values = store-length (sizesOf (t .variables)) (x .values) (p .values);
       curves = p .curves;
       blocks = store-length (blockSizes (t .curves)) (x .blocks) (p .blocks);
+      lengths = p .lengths;
       sums = store-length (sumSizes (t .curves)) (x .sums) (p .sums);
       functions = p .functions;
       groups = p .groups;
@@ -47,6 +51,7 @@ sound-usable t x s = usable-whole t (held (layout t) x) (record {
   values = lengths-cut (sizesOf (t .variables)) (x .values) (s .values);
   curves = s .curves;
   blocks = lengths-cut (blockSizes (t .curves)) (x .blocks) (s .blocks);
+  lengths = s .lengths;
   sums = lengths-cut (sumSizes (t .curves)) (x .sums) (s .sums);
   functions = s .functions;
   groups = s .groups;
@@ -65,6 +70,14 @@ module _ (vs : List Variable) (u : usableVariables vs ≡ true) where
   unfolding usableVariables
   variables-small = leb-true _ _ (all-at (variableRules vs) u 2)
 
+fewer : (cs : List Curve) → every usableCurve cs ≡ true → curveBlocks cs ≤ curveBytes cs
+unfolding sum
+fewer [] h = omega arith
+fewer (c ∷ cs) h =
+    let w : (usableCurve c ≡ true) × (every usableCurve cs ≡ true) = and-true _ _ h in
+    let o : 1 * c .blocks ≤ c .size * c .blocks = mul-le-mul-right (c .blocks) (curve-rules c (w .0) .0 .0) in
+    omega (arith, o, fewer cs (w .1))
+
 module _ (cs : List Curve) (u : usableCurves cs ≡ true) where
   pub curves-most : length cs ≤ 8
   unfolding usableCurves
@@ -73,6 +86,11 @@ module _ (cs : List Curve) (u : usableCurves cs ≡ true) where
   pub curves-small : curveBytes cs ≤ 65536
   unfolding usableCurves
   curves-small = leb-true _ _ (all-at (curveRules cs) u 2)
+
+  -- a block has a byte, so there are no more blocks than bytes
+  pub blocks-small : curveBlocks cs ≤ 65536
+  unfolding usableCurves
+  blocks-small = omega (arith, curves-small, fewer cs (all-at (curveRules cs) u 1))
 
   module _ (c : ℕ) (h : c < length cs) where
     usable-here : usableCurve (getD cs c blankCurve) ≡ true

@@ -13,7 +13,7 @@ use Rattle.bsmp.specs.declared.Function.{Function}
 use Rattle.records.specs.declared.Records.{Records}
 use Rattle.records.specs.declared.Groups.{Groups}
 use Rattle.records.specs.declared.NewGroup.{NewGroup}
-use Rattle.records.specs.declared.Before.{Before}
+use Rattle.records.specs.declared.Start.{Start}
 
 -- n things, numbered from 0
 abbrev pub numbered : {A : Type 0} → (ℕ → A) → ℕ → List A
@@ -51,8 +51,8 @@ curveBytes cs = sum (map (λ c. c .size * c .blocks) cs)
 abbrev pub curveBlocks : List Curve → ℕ
 curveBlocks cs = sum (map (λ c. c .blocks) cs)
 
-abbrev pub beforeOf : List Curve → Before
-beforeOf cs = record { blocks = curveBlocks cs; bytes = curveBytes cs }
+abbrev pub startOf : List Curve → Start
+startOf cs = record { blocks = curveBlocks cs; bytes = curveBytes cs }
 
 -- two numbers for a function: input, output; one left over is one more record, which breaks the rules
 abbrev pub functionAt : List ℕ → ℕ → Function

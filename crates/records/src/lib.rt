@@ -9,7 +9,7 @@ ghost use Prim.Native.Nat.{_≤_, _<_};
 ghost use lib.ListN.{length, take, getD};
 ghost use Rattle.bsmp.specs.Base.{every};
 ghost use Rattle.bsmp.specs.Board.{isType, blankCurve, blankFunction, usableCurves};
-ghost use Rattle.records.specs.Lending.{writableMarks, curvesOf, functionsOf, newGroupOf, beforeOf};
+ghost use Rattle.records.specs.Lending.{writableMarks, curvesOf, functionsOf, newGroupOf, startOf};
 
 // The variable records by columns; of the places from `count` on, nothing counts.
 pub struct Records {
@@ -34,7 +34,7 @@ pub struct NewGroup {
 }
 
 // What stands before a curve: in the lengths so many blocks, in the curve store so many bytes.
-pub struct Before {
+pub struct Start {
     pub blocks: usize,
     pub bytes: usize,
 }
@@ -82,9 +82,9 @@ pub fn curve_at(curves: &[u32], c: CurveNumber) -> Curve
 }
 
 // Where curve c starts: all blocks of the curves before it, and their bytes.
-pub fn before(curves: &[u32], c: CurveNumber) -> Before
+pub fn curve_start(curves: &[u32], c: CurveNumber) -> Start
     requires { ⌜ (usableCurves (curvesOf (now curves)) ≡ true) × (c .0 ≤ length (curvesOf (now curves))) ⌝ }
-    ensures { λ r. ⌜ r ≡ beforeOf (take (c .0) (curvesOf (now (curves .entry)))) ⌝ }
+    ensures { λ r. ⌜ r ≡ startOf (take (c .0) (curvesOf (now (curves .entry)))) ⌝ }
 {
     let n = c.0;
     let mut blocks: usize = 0;
@@ -97,7 +97,7 @@ pub fn before(curves: &[u32], c: CurveNumber) -> Before
         bytes += curve.size as usize * count;
         i += 1;
     }
-    Before { blocks, bytes }
+    Start { blocks, bytes }
 }
 
 // How many function records are lent, a broken one at the end included.
