@@ -1,6 +1,6 @@
 -- Numbered lists, and a walk over a list: what is left of a test and of a sum from a place on. Assumes nothing.
 use mathlib.Core.Path.{_≡_, refl, sym, ap, _∙_}
-use mathlib.Core.Bool.{Bool, true, false, cond, not}
+use mathlib.Core.Bool.{Bool, true, false, cond, not, _&&_, and-assoc, and-true as and-on}
 use mathlib.Core.List.{List, [], _∷_, map}
 use Prim.Native.Nat.{ℕ, zero, suc, _+_, _≤_, _<_}
 use native.Mathlib.Omega.{arith}
@@ -74,6 +74,10 @@ module _ {A : Type 0} (xs : List A) (n i : ℕ) (x d : A) (l : n ≡ length xs) 
   unfolding sum
   sum-next g s z y o k = let q = rw (drop-next xs i x d (omega arith) e) at k in omega (arith, q)
 
+  -- likewise of a test: a says of those before i that each passed, and b of x
+  pub all-next : (f : A → Bool) (a b y : Bool) → b ≡ f x → (a && every f (drop i xs)) ≡ y → ((a && b) && every f (drop (i + 1) xs)) ≡ y
+  all-next f a b y o k = ap (λ c. (a && c) && every f (drop (i + 1) xs)) o ∙ and-assoc a (f x) _ ∙ (rw (drop-next xs i x d (omega arith) e) at k)
+
 module _ {A : Type 0} (xs : List A) (n i : ℕ) (l : n ≡ length xs) (h : n ≤ i) where
   none-left : drop i xs ≡ []
   none-left = drop-of-length-le xs {i = i} (omega arith)
@@ -81,3 +85,6 @@ module _ {A : Type 0} (xs : List A) (n i : ℕ) (l : n ≡ length xs) (h : n ≤
   pub sum-end : (g : A → ℕ) (s y : ℕ) → s + sum (map g (drop i xs)) ≡ y → s ≡ y
   unfolding sum
   sum-end g s y k = let q = rw none-left at k in omega (arith, q)
+
+  pub all-end : (f : A → Bool) (a y : Bool) → (a && every f (drop i xs)) ≡ y → a ≡ y
+  all-end f a y k = sym (and-on a) ∙ (rw none-left at k)

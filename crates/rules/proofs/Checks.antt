@@ -18,7 +18,7 @@ use Rattle.bsmp.specs.declared.Variable.{Variable}
 use Rattle.bsmp.specs.declared.Curve.{Curve}
 use Rattle.bsmp.proofs.Bools.{and-true}
 use Rattle.records.proofs.Bounds.{curve-rules, usableGroup}
-use Rattle.rules.specs.Totals.{totalOf, variablesTotal, curvesTotal}
+use Rattle.rules.specs.Totals.{totalOf, variablesTotal, curveTotalOf}
 use Rattle.records.specs.Lending.{curveBytes}
 
 -- what the code tests of a size, computed over all bytes
@@ -117,6 +117,12 @@ module _ (c : Curve) (b : Bool) (e : b ≡ usableCurve c) (h : not b ≡ false) 
   pub curve-sum-fits : (s i n : ℕ) → s ≤ 268435456 * i → i < n → n ≤ 8 → Fits w32 (s + c .size * c .blocks)
   curve-sum-fits s i n k l m = record { fits = omega (arith, curve-small) }
 
+  pub curve-count-fits : (k i n : ℕ) → k ≤ 65536 * i → i < n → n ≤ 8 → Fits w32 (k + c .blocks)
+  curve-count-fits k i n q l m = record { fits = omega (arith, curve-rules c (sym e ∙ not-false b h)) }
+
+  pub curve-count-small : (k i : ℕ) → k ≤ 65536 * i → k + c .blocks ≤ 65536 * (i + 1)
+  curve-count-small k i q = omega (arith, curve-rules c (sym e ∙ not-false b h))
+
   pub curve-sum-small : (s i : ℕ) → s ≤ 268435456 * i → s + c .size * c .blocks ≤ 268435456 * (i + 1)
   curve-sum-small s i k = omega (arith, curve-small)
 
@@ -128,6 +134,10 @@ refused-total u n h = rw h
 pub taken-total : (u : Bool) (n m : ℕ) → u ≡ true → n ≡ m → record { usable = true; bytes = n } ≡ totalOf u m
 unfolding totalOf
 taken-total u n m h e = rw (h, e)
+
+pub refused-curves : (u : Bool) (cs : List Curve) → u ≡ false → record { usable = false; bytes = 0; blocks = 0; size = 0 } ≡ curveTotalOf u cs
+unfolding curveTotalOf
+refused-curves u cs h = rw h
 
 -- variables
 module _ (vs : List Variable) where
@@ -169,9 +179,9 @@ module _ (cs : List Curve) where
   unfolding usableCurves
   curves-large n e h = all-off (curveRules cs) 2 (rw (← e) (lt-leb n 65536 h))
 
-  pub curves-taken : (k n : ℕ) → k ≡ length cs → k ≤ 8 → every usableCurve cs ≡ true → n ≡ curveBytes cs → n ≤ 65536 → record { usable = true; bytes = n } ≡ curvesTotal cs
+  pub curves-pass : (k n : ℕ) → k ≡ length cs → k ≤ 8 → every usableCurve cs ≡ true → n ≡ curveBytes cs → n ≤ 65536 → usableCurves cs ≡ true
   unfolding usableCurves
-  curves-taken k n q l h e b = taken-total (usableCurves cs) n (curveBytes cs) (rw (← q, le-leb k 8 l, h, ← e, le-leb n 65536 b)) e
+  curves-pass k n q l h e b = rw (← q, le-leb k 8 l, h, ← e, le-leb n 65536 b)
 
 -- functions and groups: at most m of them, and each passes the test f
 module _ {A : Type 0} (f : A → Bool) (xs : List A) (m : ℕ) where

@@ -2,8 +2,10 @@
 use mathlib.Core.Bool.{Bool, true, false, cond}
 use mathlib.Core.List.{List}
 use Prim.Native.Nat.{ℕ}
-use Rattle.bsmp.specs.Base.{sum}
-use Rattle.bsmp.specs.Board.{sizesOf, usableVariables, usableCurves}
+use lib.Dec.{eqb}
+use lib.ListN.{getD}
+use Rattle.bsmp.specs.Base.{sum, every}
+use Rattle.bsmp.specs.Board.{blankCurve, sizesOf, usableVariables, usableCurves}
 use Rattle.bsmp.specs.declared.Variable.{Variable}
 use Rattle.bsmp.specs.declared.Curve.{Curve}
 use Rattle.records.specs.Lending.{curveBytes, curveBlocks}
@@ -17,9 +19,18 @@ totalOf u n = cond u (record { usable = true; bytes = n }) (record { usable = fa
 abbrev pub variablesTotal : List Variable → Total
 variablesTotal vs = totalOf (usableVariables vs) (sum (sizesOf vs))
 
--- and of curves also how many blocks
-unfoldable pub curveTotalOf : Bool → (bytes blocks : ℕ) → CurveTotal
-curveTotalOf u n k = cond u (record { usable = true; bytes = n; blocks = k }) (record { usable = false; bytes = 0; blocks = 0 })
+-- the block size that all curves have, or 0
+abbrev pub firstSize : List Curve → ℕ
+firstSize cs = getD cs 0 blankCurve .size
+
+abbrev pub commonSize : List Curve → ℕ
+commonSize cs = cond (every (λ c. eqb (c .size) (firstSize cs)) cs) (firstSize cs) 0
+
+-- the bytes, blocks and common size of curves, if u
+unfoldable pub curveTotalOf : Bool → List Curve → CurveTotal
+curveTotalOf u cs =
+    cond u (record { usable = true; bytes = curveBytes cs; blocks = curveBlocks cs; size = commonSize cs })
+    (record { usable = false; bytes = 0; blocks = 0; size = 0 })
 
 abbrev pub curvesTotal : List Curve → CurveTotal
-curvesTotal cs = curveTotalOf (usableCurves cs) (curveBytes cs) (curveBlocks cs)
+curvesTotal cs = curveTotalOf (usableCurves cs) cs
