@@ -136,7 +136,7 @@ fn fitting_curves(curves: &[u32], lengths: &[u16]) -> bool
 }
 
 // Whether there is a length for each block of usable curves, 1 to its size. Where all blocks have one size they are tested in one walk.
-fn fitting_lengths(curves: &[u32], total: CurveTotal, lengths: &[u16]) -> bool
+pub fn fitting_lengths(curves: &[u32], total: CurveTotal, lengths: &[u16]) -> bool
     requires { ⌜ (total ≡ curvesTotal (curvesOf (now curves))) × (total .usable ≡ true) ⌝ }
     ensures { λ r. ⌜ r ≡ fitting (blockSizes (curvesOf (now (curves .entry)))) (now (lengths .entry)) ⌝ }
 {
@@ -150,7 +150,7 @@ fn fitting_lengths(curves: &[u32], total: CurveTotal, lengths: &[u16]) -> bool
 }
 
 // Every rule but that of the lengths, one after another, with what the curves add up to.
-fn whole_board(
+pub fn whole_board(
     count: usize,
     writable: &[u8; 64],
     sizes: &[u8; 64],
@@ -195,87 +195,7 @@ fn whole_board(
     total
 }
 
-// Every rule of a board that is to be fresh: a length for each block, whatever stands there.
-pub fn freshable_board(
-    count: usize,
-    writable: &[u8; 64],
-    sizes: &[u8; 64],
-    kinds: &[u8; 64],
-    curves: &[u32],
-    functions: &[u8],
-    made: u64,
-    sets: &[u64; 5],
-    values: &[u8],
-    blocks: &[u8],
-    lengths: &[u16],
-    sums: &[u8],
-) -> bool
-    ensures { λ r. let records = recordsBy count (now (writable .entry)) (now (sizes .entry)) (now (kinds .entry)) in
-        let t = tableOf records (now (curves .entry)) (now (functions .entry)) in
-        let groups = groupsOf (groupsBy made (now (sets .entry))) in
-        let x = lent (now (values .entry)) (now (blocks .entry)) (now (lengths .entry)) (now (sums .entry)) groups in
-        ⌜ r ≡ usable t (full (layout t) (held (layout t) x)) ⌝ }
-{
-    let total = whole_board(
-        count,
-        writable,
-        sizes,
-        kinds,
-        curves,
-        functions,
-        made,
-        sets,
-        values,
-        blocks,
-        sums,
-    );
-    if !total.usable {
-        return false;
-    }
-    total.blocks as usize == lengths.len()
-}
-
-// Every rule.
-pub fn usable_board(
-    count: usize,
-    writable: &[u8; 64],
-    sizes: &[u8; 64],
-    kinds: &[u8; 64],
-    curves: &[u32],
-    functions: &[u8],
-    made: u64,
-    sets: &[u64; 5],
-    values: &[u8],
-    blocks: &[u8],
-    lengths: &[u16],
-    sums: &[u8],
-) -> bool
-    ensures { λ r. let records = recordsBy count (now (writable .entry)) (now (sizes .entry)) (now (kinds .entry)) in
-        let t = tableOf records (now (curves .entry)) (now (functions .entry)) in
-        let groups = groupsOf (groupsBy made (now (sets .entry))) in
-        let x = lent (now (values .entry)) (now (blocks .entry)) (now (lengths .entry)) (now (sums .entry)) groups in
-        ⌜ r ≡ usable t (held (layout t) x) ⌝ }
-{
-    let total = whole_board(
-        count,
-        writable,
-        sizes,
-        kinds,
-        curves,
-        functions,
-        made,
-        sets,
-        values,
-        blocks,
-        sums,
-    );
-    if !total.usable {
-        return false;
-    }
-    fitting_lengths(curves, total, lengths)
-}
-
-// The same as `usable_board`, for packets: it has one caller, since the compiler takes only such a function into the entry whole.
+// All rules, for packets: it has one caller, since the compiler takes only such a function into the entry whole.
 pub fn quick_board(
     count: usize,
     writable: &[u8; 64],

@@ -64,7 +64,7 @@ fn judge_result(
         let state = held (layout table) (lent (now (values .entry)) (now (blocks .entry)) (now (lengths .entry)) (now (sums .entry)) groups) in
         ⌜ r ≡ first (faults table state) Refuse (first (resultTests (layout table) room function (ranOf ran (now (output .entry)))) Refuse Pass) ⌝ }
 {
-    let usable = boards::usable_board(
+    let total = boards::whole_board(
         count,
         writable,
         sizes,
@@ -75,10 +75,12 @@ fn judge_result(
         sets,
         values,
         blocks,
-        lengths,
         sums,
     );
-    if !usable {
+    if !total.usable {
+        return Judged::Refuse(Refusal::BoardUnusable);
+    }
+    if !boards::fitting_lengths(curves, total, lengths) {
         return Judged::Refuse(Refusal::BoardUnusable);
     }
     if room < 4104 {
@@ -197,7 +199,7 @@ fn judge_store(
         let state = held (layout table) (lent (now (values .entry)) (now (blocks .entry)) (now (lengths .entry)) (now (sums .entry)) groups) in
         ⌜ r ≡ first (faults table state) Refuse (first (storeTests (layout table) variable (now (bytes .entry))) Refuse Pass) ⌝ }
 {
-    let usable = boards::usable_board(
+    let total = boards::whole_board(
         count,
         writable,
         sizes,
@@ -208,10 +210,12 @@ fn judge_store(
         sets,
         values,
         blocks,
-        lengths,
         sums,
     );
-    if !usable {
+    if !total.usable {
+        return Judged::Refuse(Refusal::BoardUnusable);
+    }
+    if !boards::fitting_lengths(curves, total, lengths) {
         return Judged::Refuse(Refusal::BoardUnusable);
     }
     let i = variable.0;
@@ -295,7 +299,7 @@ pub fn fresh_board(
         let state = held (layout table) (lent (now (values .entry)) (now (blocks .entry)) (now (lengths .entry)) (now (sums .entry)) groups) in
         ⌜ freshLeft r (now (lengths .exit)) (now (sums .exit)) ≡ freshLeftOf (freshBoard table state) ⌝ }
 {
-    let usable = boards::freshable_board(
+    let total = boards::whole_board(
         count,
         writable,
         sizes,
@@ -306,10 +310,12 @@ pub fn fresh_board(
         sets,
         values,
         blocks,
-        lengths,
         sums,
     );
-    if !usable {
+    if !total.usable {
+        return Stored::Refused(Refusal::BoardUnusable);
+    }
+    if total.blocks as usize != lengths.len() {
         return Stored::Refused(Refusal::BoardUnusable);
     }
     curves::fresh(curves, blocks, lengths, sums);
