@@ -8,6 +8,7 @@ pub mod Usable
 pub mod Marks
 pub mod Examples
 pub mod Steps
+pub mod Hidden
 pub mod Apart
 pub mod Accepted
 pub mod Reading
