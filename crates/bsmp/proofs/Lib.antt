@@ -10,6 +10,7 @@ pub mod Examples
 pub mod Steps
 pub mod Hidden
 pub mod Apart
+pub mod Stale
 pub mod Accepted
 pub mod Reading
 pub mod Stays
