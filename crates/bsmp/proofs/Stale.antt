@@ -1,18 +1,17 @@
 -- Stale bytes (02, 2026-03): what stands past a block's length is told by no answer and no sum, so two boards that differ only there end alike
 -- for ever. Hidden's steps, with those bytes hidden; only a fresh board, which makes all blocks full, brings them back. Assumes nothing.
 use mathlib.Core.Path.{_≡_, refl, sym, ap, ap₂, _∙_}
-use mathlib.Core.Bool.{Bool, true, false, not, _&&_, true≢false}
+use mathlib.Core.Bool.{Bool, true, false, not, true≢false}
 use mathlib.Core.List.{List, [], _∷_, _++_, map}
 use Prim.Native.Nat.{ℕ, zero, suc, _+_, _-_}
 use native.Mathlib.Omega.{arith}
 use lib.ListN.{length, take, drop, set, getD, length-append, length-drop}
 use lib.Seq.{take-at}
-use Rattle.bsmp.specs.Base.{every, first}
 use Rattle.md5.specs.Md5.{digest}
-use Rattle.bsmp.specs.Board.{Table, layout, State, blockOf, contentOf, contentsOf, usable, faults}
+use Rattle.bsmp.specs.Board.{Table, State, blockOf}
 use Rattle.bsmp.specs.Message.{Change, nothing, edit, fill, renew, regroup, Answer, say, tell, show, attest, call, Line, edited, filled, after, valuesOf, replies, spoken}
-use Rattle.bsmp.specs.Packet.{Place, ends, isOwn, destination, message, placeTests, packetTests}
-use Rattle.bsmp.specs.Apart.{AlikeButStale, Event, arrives, returns, stores, freshens, readBy, readsIn, readsBy, happen, endings, later, unreadBy, isFresh, neverFresh}
+use Rattle.bsmp.specs.Packet.{Place, ends, isOwn, destination}
+use Rattle.bsmp.specs.Apart.{AlikeButStale, Event, arrives, returns, stores, freshens, readBy, readsBy, happen, endings, later, unreadBy, isFresh, neverFresh}
 use Rattle.bsmp.specs.declared.Check.{Check}
 use Rattle.bsmp.specs.declared.Check.the-variants.{Pass, Fail}
 use Rattle.bsmp.proofs.Bools.{and-false, not-so}

@@ -7,10 +7,10 @@ use mathlib.Core.List.{List, [], _∷_, map}
 use Prim.Native.Nat.{ℕ, _<_}
 use lib.ListN.{length, take}
 use Rattle.bsmp.specs.Base.{some, every, first}
-use Rattle.bsmp.specs.Board.{Table, Layout, layout, State, valueOf, contentOf, isSame, faults}
+use Rattle.bsmp.specs.Board.{Table, Layout, layout, State, valueOf, blockSizes, contentOf, isSame, faults}
 use Rattle.bsmp.specs.Message.{Answer, Line, told, asked, judge}
 use Rattle.bsmp.specs.Packet.{Place, Ending, reply, silence, run, Result, isOwn, destination, message, placeTests, packetTests, packet, Ran, functionResult, boardStore, freshBoard}
-use Rattle.bsmp.specs.Store.{Lent, held, lentOf, bytesIn, Left, leaves}
+use Rattle.bsmp.specs.Store.{Lent, held, lentOf, bytesIn, contentIn, Left, leaves}
 use Rattle.bsmp.specs.declared.VariableNumber.{VariableNumber}
 use Rattle.bsmp.specs.declared.FunctionNumber.{FunctionNumber}
 use Rattle.bsmp.specs.declared.Check.{Check}
@@ -165,6 +165,15 @@ pub record LentAlike (l : Layout) (v : VariableNumber) (x₁ x₂ : Lent) : Type
   pub others : (i : VariableNumber) → i .0 < length (l .sizes) → i ≢ v → bytesIn l (x₁ .values) i ≡ bytesIn l (x₂ .values) i
   pub size : length (x₁ .values) ≡ length (x₂ .values)
   pub blocks : x₁ .blocks ≡ x₂ .blocks
+  pub lengths : x₁ .lengths ≡ x₂ .lengths
+  pub sums : x₁ .sums ≡ x₂ .sums
+  pub groups : x₁ .groups ≡ x₂ .groups
+
+-- alike but for bytes past the blocks' lengths
+pub record LentAlikeButStale (l : Layout) (x₁ x₂ : Lent) : Type 0 where
+  pub values : x₁ .values ≡ x₂ .values
+  pub contents : (k : ℕ) → k < length (blockSizes (l .curves)) → contentIn l x₁ k ≡ contentIn l x₂ k
+  pub size : length (x₁ .blocks) ≡ length (x₂ .blocks)
   pub lengths : x₁ .lengths ≡ x₂ .lengths
   pub sums : x₁ .sums ≡ x₂ .sums
   pub groups : x₁ .groups ≡ x₂ .groups
