@@ -24,3 +24,4 @@ pub mod Lent
 pub mod Input
 pub mod Edges
 pub mod Sums
+pub mod Lengths

@@ -46,6 +46,9 @@ Fits t s (regroup gs) = usableGroups (length (t .variables)) gs ≡ true
 pub value-length : (t : Table) (s : State) → Usable t s → (i : VariableNumber) → length (valueOf s i) ≡ sizeOf (layout t) i
 value-length t s u i = sym (List·getD-map length (s .values) (i .0) []) ∙ ap (λ l. getD l (i .0) 0) (u .values)
 
+pub block-bytes : (t : Table) (s : State) → Usable t s → (k : ℕ) → length (blockOf s k) ≡ getD (blockSizes (t .curves)) k 0
+block-bytes t s u k = sym (List·getD-map length (s .blocks) k []) ∙ ap (λ ns. getD ns k 0) (u .blocks)
+
 pub changed-length : (op : Operation) (x p : List ℕ) → length p ≡ length x → length (changed op x p) ≡ length x
 unfolding changed
 changed-length op [] p h = refl
@@ -100,7 +103,7 @@ after-usable t s (edit op is ps) h k = usable-by t _ s (edited-lengths (layout t
 after-usable t s (fill i d) h k =
     let u : Usable t s = usable-parts t s h in
     let one : length (filled d (blockOf s i)) ≡ length (blockOf s i) = simp (length-append, length-drop) (omega (arith, k .1)) in
-    let size : length (blockOf s i) ≡ getD (blockSizes (t .curves)) i 0 = sym (List·getD-map length (s .blocks) i []) ∙ ap (λ ns. getD ns i 0) (u .blocks) in
+    let size : length (blockOf s i) ≡ getD (blockSizes (t .curves)) i 0 = block-bytes t s u i in
     usable-whole t _ record {
       variables = u .variables;
       values = u .values;
@@ -133,9 +136,7 @@ block-size (x ∷ cs) (suc c) k h l =
 
 pub block-length : (t : Table) (s : State) → Usable t s → (c : CurveNumber) (k : ℕ) → c .0 < length (t .curves) → k < curveOf (layout t) c .blocks
     → length (blockOf s (blockPlace (layout t) c k)) ≡ curveOf (layout t) c .size
-block-length t s u c k a b =
-    sym (List·getD-map length (s .blocks) (blockPlace (layout t) c k) []) ∙ ap (λ x. getD x (blockPlace (layout t) c k) 0) (u .blocks)
-    ∙ block-size (t .curves) (c .0) k a b
+block-length t s u c k a b = block-bytes t s u (blockPlace (layout t) c k) ∙ block-size (t .curves) (c .0) k a b
 
 pub sum-length : (t : Table) (s : State) → Usable t s → (c : CurveNumber) → c .0 < length (t .curves) → length (sumOf s c) ≡ 16
 sum-length t s u c h =

@@ -1,0 +1,180 @@
+-- Lengths of blocks (02, 2026-03): an accepted 41 makes its block hold what it carries, no byte more, and no other message changes any; so a
+-- read returns what was written, and 42 sums it. Each length is 1 to its block's size on every usable board. Assumes nothing.
+use mathlib.Core.Path.{_≡_, refl, sym, ap, ap₂, _∙_, subst}
+use mathlib.Core.Logic.{_≢_}
+use mathlib.Core.Bool.{true, false, false≢true}
+use mathlib.Core.List.{List, [], _∷_, _++_, map}
+use Prim.Native.Nat.{ℕ, zero, suc, _+_, _≤_, _<_}
+use native.Mathlib.Omega.{arith}
+use lib.Dec.{leb}
+use lib.ListN.{length, take, drop, getD, length-append, length-drop, length-map, List·getD-map}
+use lib.Seq.{drop-at, getD-set-same, getD-set-other, length-take-le}
+use borrow.Author.Tests.{eqb-true, leb-true, ltb-false, not-false}
+use Rattle.md5.specs.Md5.{digest}
+use Rattle.bsmp.specs.Base.{byteAt, wordAt, join, upFrom, within}
+use Rattle.bsmp.specs.Codes.{commandOf}
+use Rattle.bsmp.specs.Board.{Table, Layout, layout, State, blockOf, curveOf, blockSizes, blockPlace, contentOf, curveSum, fitting, usable}
+use Rattle.bsmp.specs.Message.{fill, curveAt, testsOf, asked, line, replies, filled, after, spoken, said, stateAfter, carried, handled, judge}
+use Rattle.bsmp.specs.Packet.{Place}
+use Rattle.bsmp.specs.Apart.{Event, later}
+use Rattle.bsmp.specs.declared.CurveNumber.{CurveNumber}
+use Rattle.bsmp.specs.declared.Command.the-variants.{ReadSum, ReadBlock, WriteBlock, RenewSum}
+use Rattle.bsmp.specs.declared.Check.the-variants.{Pass}
+use Rattle.bsmp.proofs.Bools.{and-true}
+use Rattle.bsmp.proofs.Chain.{clear, clear-at}
+use Rattle.bsmp.proofs.Usable.{Usable, usable-parts}
+use Rattle.bsmp.proofs.Accepted.{fail-no, judge-case, accepted}
+use Rattle.bsmp.proofs.Stale.{take-filled}
+use Rattle.bsmp.proofs.Stays.{Fits, block-bytes, line-fits, handled-usable, later-usable}
+use Rattle.bsmp.proofs.Keeps.{curves-kept}
+use Rattle.bsmp.proofs.Sums.{arrived}
+
+-- "1 to the block size", "one per block" --------------------------------------------------------------------------------------
+fitting-count : (ms ns : List ℕ) → fitting ms ns ≡ true → length ns ≡ length ms
+fitting-count [] [] h = refl
+fitting-count [] (n ∷ ns) h = absurd (false≢true h)
+fitting-count (m ∷ ms) [] h = absurd (false≢true h)
+fitting-count (m ∷ ms) (n ∷ ns) h = ap suc (fitting-count ms ns (and-true (within 1 m n) _ h .1))
+
+fitting-least : (ms ns : List ℕ) → fitting ms ns ≡ true → (k : ℕ) → k < length ms → 1 ≤ getD ns k 0
+fitting-least [] ns h k l = absurd (omega (arith, l))
+fitting-least (m ∷ ms) [] h k l = absurd (false≢true h)
+fitting-least (m ∷ ms) (n ∷ ns) h zero l = leb-true 1 n (and-true _ _ (and-true (within 1 m n) _ h .0) .0)
+fitting-least (m ∷ ms) (n ∷ ns) h (suc k) l = fitting-least ms ns (and-true (within 1 m n) _ h .1) k (omega (arith, l))
+
+fitting-most : (ms ns : List ℕ) → fitting ms ns ≡ true → (k : ℕ) → getD ns k 0 ≤ getD ms k 0
+fitting-most [] [] h k = omega arith
+fitting-most [] (n ∷ ns) h k = absurd (false≢true h)
+fitting-most (m ∷ ms) [] h k = absurd (false≢true h)
+fitting-most (m ∷ ms) (n ∷ ns) h zero = leb-true n m (and-true (leb 1 n) _ (and-true (within 1 m n) _ h .0) .1)
+fitting-most (m ∷ ms) (n ∷ ns) h (suc k) = fitting-most ms ns (and-true (within 1 m n) _ h .1) k
+
+pub record InRange (t : Table) (s : State) : Type 0 where
+  pub count : length (s .lengths) ≡ length (blockSizes (t .curves))
+  pub least : (k : ℕ) → k < length (blockSizes (t .curves)) → 1 ≤ getD (s .lengths) k 0
+  pub most : (k : ℕ) → getD (s .lengths) k 0 ≤ getD (blockSizes (t .curves)) k 0
+
+pub in-range : (t : Table) (s : State) → usable t s ≡ true → InRange t s
+in-range t s h =
+    let f = usable-parts t s h .lengths in
+    record {
+      count = fitting-count (blockSizes (t .curves)) (s .lengths) f;
+      least = fitting-least (blockSizes (t .curves)) (s .lengths) f;
+      most = fitting-most (blockSizes (t .curves)) (s .lengths) f;
+    }
+
+-- and so after every event
+pub stays-in-range : (t : Table) (a : Place) (es : List Event) (s : State) → usable t s ≡ true → InRange t (later t a es s)
+stays-in-range t a es s h = in-range t (later t a es s) (later-usable t a es s h)
+
+-- a block holds as many bytes as its length says
+pub content-length : (t : Table) (s : State) → usable t s ≡ true → (k : ℕ) → length (contentOf s k) ≡ getD (s .lengths) k 0
+content-length t s u k = length-take-le (getD (s .lengths) k 0) (blockOf s k) (rw (block-bytes t s (usable-parts t s u) k) (in-range t s u .most k))
+
+-- a block written ------------------------------------------------------------------------------------------------------------
+place-known : (l : List ℕ) (k : ℕ) → 1 ≤ getD l k 0 → k < length l
+place-known [] k h = absurd (omega (arith, h))
+place-known (x ∷ l) zero h = omega arith
+place-known (x ∷ l) (suc k) h = omega (arith, place-known l k h)
+
+module _ (t : Table) (s : State) (u : usable t s ≡ true) (k : ℕ) (d : List ℕ) (f : Fits t s (fill k d)) where
+  there : (k < length (s .blocks)) × (k < length (s .lengths))
+  there =
+      let w : Usable t s = usable-parts t s u in
+      let n : length (s .blocks) ≡ length (blockSizes (t .curves)) = sym (length-map (s .blocks) length) ∙ ap length (w .blocks) in
+      let m : length (s .lengths) ≡ length (blockSizes (t .curves)) = in-range t s u .count in
+      let p : k < length (blockSizes (t .curves)) = place-known (blockSizes (t .curves)) k (omega (arith, f .0, f .1, block-bytes t s w k)) in
+      (omega arith, omega arith)
+
+  filled-block : blockOf (after (fill k d) s) k ≡ filled d (blockOf s k)
+  unfolding after
+  filled-block = getD-set-same (s .blocks) k _ [] (there .0)
+
+  filled-holds : contentOf (after (fill k d) s) k ≡ d
+  unfolding after
+  filled-holds =
+      ap₂ take (getD-set-same (s .lengths) k (length d) 0 (there .1)) filled-block
+      ∙ take-filled d (blockOf s k)
+
+  filled-stale : drop (length d) (blockOf (after (fill k d) s) k) ≡ drop (length d) (blockOf s k)
+  filled-stale = ap (drop (length d)) filled-block ∙ drop-at d _ (length d) refl
+
+filled-others : (s : State) (k : ℕ) (d : List ℕ) (i : ℕ) → i ≢ k
+    → (blockOf (after (fill k d) s) i ≡ blockOf s i) × (getD (after (fill k d) s .lengths) i 0 ≡ getD (s .lengths) i 0)
+unfolding after
+filled-others s k d i n = (getD-set-other (s .blocks) k i _ [] n, getD-set-other (s .lengths) k i _ 0 n)
+
+-- a message that is an accepted 41 of block j of curve c, and carries d; and an accepted 40 of that block
+pub record Writes (t : Table) (c : CurveNumber) (j : ℕ) (d : List ℕ) (busy : ℕ) (m : List ℕ) (s : State) : Type 0 where
+  pub command : commandOf (byteAt m 0) ≡ WriteBlock
+  pub named : curveAt (drop 3 m) 0 ≡ c
+  pub block : wordAt (drop 3 m) 1 ≡ j
+  pub carries : drop 3 (drop 3 m) ≡ d
+  pub passes : judge (layout t) (s .groups) busy m ≡ Pass
+
+pub record Reads (t : Table) (c : CurveNumber) (j : ℕ) (busy : ℕ) (m : List ℕ) (s : State) : Type 0 where
+  pub command : commandOf (byteAt m 0) ≡ ReadBlock
+  pub named : curveAt (drop 3 m) 0 ≡ c
+  pub block : wordAt (drop 3 m) 1 ≡ j
+  pub passes : judge (layout t) (s .groups) busy m ≡ Pass
+
+module _ (t : Table) (c : CurveNumber) (j : ℕ) (busy : ℕ) (q : List ℕ) (s : State) (r : Reads t c j busy q s) where
+  front : length (drop 3 q) ≡ 3
+  unfolding line
+  front =
+      let a = rw (r .command) at (accepted (layout t) (s .groups) busy q .0 (r .passes) .tested) in
+      eqb-true _ _ (not-false _ (clear-at (line (layout t) (s .groups) (drop 3 q) ReadBlock .tests) a 0))
+
+  -- a read is answered with what the block holds, ..
+  pub told-block : handled (layout t) busy q s .says ≡ replies 0x41 (drop 3 q ++ contentOf s (blockPlace (layout t) c j))
+  unfolding handled carried stateAfter said spoken line after
+  told-block = rw (r .passes, r .command) (ap (λ i. replies 0x41 (drop 3 q ++ contentOf s i)) (ap₂ (blockPlace (layout t)) (r .named) (r .block)))
+
+  -- .. and "returns that many bytes" after curve and block
+  pub told-length : usable t s ≡ true → length (drop 3 q ++ contentOf s (blockPlace (layout t) c j)) ≡ 3 + getD (s .lengths) (blockPlace (layout t) c j) 0
+  told-length u = length-append (drop 3 q) _ ∙ ap₂ _+_ front (content-length t s u (blockPlace (layout t) c j))
+
+module _ (t : Table) (c : CurveNumber) (j : ℕ) (d : List ℕ) (busy : ℕ) (m : List ℕ) (s : State) (u : usable t s ≡ true) (w : Writes t c j d busy m s) where
+  abbrev place : ℕ
+  place = blockPlace (layout t) c j
+
+  abbrev now : State
+  now = handled (layout t) busy m s .state
+
+  change : line (layout t) (s .groups) (drop 3 m) WriteBlock .change ≡ fill place d
+  unfolding line
+  change = ap₂ fill (ap₂ (blockPlace (layout t)) (w .named) (w .block)) (w .carries)
+
+  -- all that it changes
+  pub written : handled (layout t) busy m s .state ≡ after (fill (blockPlace (layout t) c j) d) s
+  unfolding handled carried stateAfter
+  written = rw (w .passes, w .command) (ap (λ ch. after ch s) change)
+
+  fits : Fits t s (fill place d)
+  fits =
+      let c : clear (testsOf (asked (layout t) (s .groups) m) busy) =
+      judge-case (layout t) (s .groups) busy m (λ v. v ≡ Pass → clear (testsOf (asked (layout t) (s .groups) m) busy)) (λ e h. absurd (fail-no e h)) (λ f c h. c) (w .passes) in
+      subst (Fits t s) change (line-fits t s busy (drop 3 m) u WriteBlock (rw (w .command) at c))
+
+  -- "a write sets it": the block holds what was carried ..
+  pub holds : contentOf (handled (layout t) busy m s .state) (blockPlace (layout t) c j) ≡ d
+  holds = rw written (filled-holds t s u place d fits)
+
+  -- .. and the bytes behind it are those that stood there
+  pub rest-stays : drop (length d) (blockOf (handled (layout t) busy m s .state) (blockPlace (layout t) c j)) ≡ drop (length d) (blockOf s (blockPlace (layout t) c j))
+  rest-stays = rw written (filled-stale t s u place d fits)
+
+  -- no other block changes, in no byte and not in its length
+  pub others-stay : (i : ℕ) → i ≢ blockPlace (layout t) c j
+      → (blockOf (handled (layout t) busy m s .state) i ≡ blockOf s i) × (getD (handled (layout t) busy m s .state .lengths) i 0 ≡ getD (s .lengths) i 0)
+  others-stay i n = rw written (filled-others s place d i n)
+
+  -- so what was written reads back, and nothing that stood behind it; as many bytes in all as the 41 had
+  pub reads-back : (busy′ : ℕ) (q : List ℕ) → Reads t c j busy′ q (handled (layout t) busy m s .state)
+      → (handled (layout t) busy′ q (handled (layout t) busy m s .state) .says ≡ replies 0x41 (drop 3 q ++ d)) × (length (drop 3 q ++ d) ≡ length (drop 3 m))
+  reads-back busy′ q r =
+      let n : length (drop 3 q) ≡ 3 = front t c j busy′ q now r in
+      let k : 1 ≤ length (drop 3 (drop 3 m)) = rw (w .carries) (fits .0) in (
+        told-block t c j busy′ q now r ∙ ap (λ x. replies 0x41 (drop 3 q ++ x)) holds,
+        rw (← w .carries) (simp (length-append, length-drop) (omega (arith, n, simp length-drop at n, simp length-drop at k))),
+      )
