@@ -178,3 +178,55 @@ module _ (t : Table) (c : CurveNumber) (j : ℕ) (d : List ℕ) (busy : ℕ) (m 
         told-block t c j busy′ q now r ∙ ap (λ x. replies 0x41 (drop 3 q ++ x)) holds,
         rw (← w .carries) (simp (length-append, length-drop) (omega (arith, n, simp length-drop at n, simp length-drop at k))),
       )
+
+-- no other message changes any block, or its length
+pub only-41 : (l : Layout) (busy : ℕ) (m : List ℕ) (s : State) → commandOf (byteAt m 0) ≢ WriteBlock
+    → (handled l busy m s .state .blocks ≡ s .blocks) × (handled l busy m s .state .lengths ≡ s .lengths)
+only-41 l busy m s n = let k = curves-kept l busy m s in (k .blocks n, k .lengths n)
+
+-- a whole curve written --------------------------------------------------------------------------------------------------------
+-- accepted 41s of a curve's blocks from j on, one after another, with what each carries; and the states before and after them
+pub data Download (t : Table) (c : CurveNumber) : ℕ → List (List ℕ) → State → State → Type 0 where
+  over : {j : ℕ} {s : State} → Download t c j [] s s
+  next : {j : ℕ} {d : List ℕ} {ds : List (List ℕ)} {s s′ : State} (busy : ℕ) (m : List ℕ) → Writes t c j d busy m s
+      → Download t c (suc j) ds (handled (layout t) busy m s .state) s′ → Download t c j (d ∷ ds) s s′
+
+module _ (t : Table) (c : CurveNumber) where
+  pub download-usable : {j : ℕ} {ds : List (List ℕ)} {s s′ : State} → usable t s ≡ true → Download t c j ds s s′ → usable t s′ ≡ true
+  download-usable u over = u
+  download-usable {s = s} u (next busy m w r) = download-usable (handled-usable t busy m s u) r
+
+  -- blocks before j stay ..
+  before-stay : {j : ℕ} {ds : List (List ℕ)} {s s′ : State} → usable t s ≡ true → Download t c j ds s s′
+      → (i : ℕ) → i < blockPlace (layout t) c j → contentOf s′ i ≡ contentOf s i
+  before-stay u over i h = refl
+  before-stay {j = j} {s = s} u (next {d = d} busy m w r) i h =
+      let o = others-stay t c j d busy m s u w i (λ e. omega arith) in
+      before-stay (handled-usable t busy m s u) r i (omega arith)
+      ∙ ap₂ take (o .1) (o .0)
+
+  -- .. and those from j on hold what was carried
+  all-held : {j : ℕ} {ds : List (List ℕ)} {s s′ : State} → usable t s ≡ true → Download t c j ds s s′
+      → (i : ℕ) → i ≡ blockPlace (layout t) c j → map (contentOf s′) (upFrom i (length ds)) ≡ ds
+  all-held u over i e = refl
+  all-held {j = j} {s = s} {s′ = s′} u (next {d = d} busy m w r) i e =
+      let n : usable t (handled (layout t) busy m s .state) ≡ true = handled-usable t busy m s u in
+      ap₂ _∷_ (ap (contentOf s′) e ∙ before-stay n r (blockPlace (layout t) c j) (omega arith) ∙ holds t c j d busy m s u w)
+      (all-held n r (suc i) (omega arith))
+
+  -- so a curve of which each block was written holds the written bytes in block order, and its sum would be theirs
+  pub downloaded : {ds : List (List ℕ)} {s s′ : State} → usable t s ≡ true → Download t c 0 ds s s′ → length ds ≡ curveOf (layout t) c .blocks
+      → curveSum (layout t) s′ c ≡ digest (join ds)
+  downloaded {ds = ds} {s = s} {s′ = s′} u r n =
+      ap (λ k. digest (join (map (contentOf s′) (upFrom (blockPlace (layout t) c 0) k)))) (sym n)
+      ∙ ap (λ x. digest (join x)) (all-held u r (blockPlace (layout t) c 0) refl)
+
+  -- "the line wants to see whether a download arrived": 42 and then 0A of it are answered with the MD5 of what was written
+  pub download-told : {ds : List (List ℕ)} {s s′ : State} → usable t s ≡ true → Download t c 0 ds s s′ → length ds ≡ curveOf (layout t) c .blocks
+      → (busy : ℕ) (m : List ℕ) → commandOf (byteAt m 0) ≡ RenewSum → curveAt (drop 3 m) 0 ≡ c → judge (layout t) (s′ .groups) busy m ≡ Pass
+      → (busy′ : ℕ) (q : List ℕ) → commandOf (byteAt q 0) ≡ ReadSum → curveAt (drop 3 q) 0 ≡ c
+      → judge (layout t) (handled (layout t) busy m s′ .state .groups) busy′ q ≡ Pass
+      → handled (layout t) busy′ q (handled (layout t) busy m s′ .state) .says ≡ replies 0x0B (digest (join ds))
+  download-told {s′ = s′} u r n busy m k e v busy′ q k′ e′ v′ =
+      arrived t busy m s′ (download-usable u r) k v busy′ q k′ (e′ ∙ sym e) v′
+      ∙ ap (replies 0x0B) (ap (curveSum (layout t) s′) e ∙ downloaded u r n)
