@@ -2,14 +2,14 @@
 -- read returns what was written, and 42 sums it. Each length is 1 to its block's size on every usable board. Assumes nothing.
 use mathlib.Core.Path.{_≡_, refl, sym, ap, ap₂, _∙_, subst}
 use mathlib.Core.Logic.{_≢_}
-use mathlib.Core.Bool.{true, false, false≢true}
+use mathlib.Core.Bool.{true, false≢true}
 use mathlib.Core.List.{List, [], _∷_, _++_, map}
 use Prim.Native.Nat.{ℕ, zero, suc, _+_, _≤_, _<_}
 use native.Mathlib.Omega.{arith}
 use lib.Dec.{leb}
-use lib.ListN.{length, take, drop, getD, length-append, length-drop, length-map, List·getD-map}
+use lib.ListN.{length, take, drop, getD, length-append, length-drop, length-map}
 use lib.Seq.{drop-at, getD-set-same, getD-set-other, length-take-le}
-use borrow.Author.Tests.{eqb-true, leb-true, ltb-false, not-false}
+use borrow.Author.Tests.{eqb-true, leb-true, not-false}
 use Rattle.md5.specs.Md5.{digest}
 use Rattle.bsmp.specs.Base.{byteAt, wordAt, join, upFrom, within}
 use Rattle.bsmp.specs.Codes.{commandOf}
@@ -30,7 +30,7 @@ use Rattle.bsmp.proofs.Keeps.{curves-kept}
 use Rattle.bsmp.proofs.Sums.{arrived}
 
 -- "1 to the block size", "one per block" --------------------------------------------------------------------------------------
-fitting-count : (ms ns : List ℕ) → fitting ms ns ≡ true → length ns ≡ length ms
+pub fitting-count : (ms ns : List ℕ) → fitting ms ns ≡ true → length ns ≡ length ms
 fitting-count [] [] h = refl
 fitting-count [] (n ∷ ns) h = absurd (false≢true h)
 fitting-count (m ∷ ms) [] h = absurd (false≢true h)

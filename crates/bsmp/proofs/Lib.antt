@@ -25,3 +25,4 @@ pub mod Input
 pub mod Edges
 pub mod Sums
 pub mod Lengths
+pub mod Fresh

@@ -14,9 +14,9 @@ use Rattle.md5.proofs.Digest.{length-digest}
 use Rattle.bsmp.specs.Base.{some, every, sum, join, cut, within, byteAt, wordAt, upFrom}
 use Rattle.bsmp.specs.Codes.{commandOf}
 use Rattle.bsmp.specs.Board.{variable, curve, Table, Layout, layout, State, valueOf, blockOf, sizeOf, variables, isSame, groupBytes, setOf, blankCurve, curveOf, blockSizes, blockPlace}
-use Rattle.bsmp.specs.Board.{withValues, withBlocks, withSums, contentsOf, sumOf, curveSum, sumSizes, fitting, full, fresh, usable, usableGroups, faults}
+use Rattle.bsmp.specs.Board.{contentsOf, sumOf, curveSum, sumSizes, fitting, full, fresh, usable, usableGroups, faults}
 use Rattle.bsmp.specs.Message.{Change, nothing, edit, fill, renew, regroup, writesVariable, writesGroup, Line, testsOf, line, asked, changed, edited, filled, after, stateAfter, carried, handled}
-use Rattle.bsmp.specs.Packet.{Place, refuse, placeTests, packetTests, served, packet, resultTests, functionResult, storeTests, boardStore, freshBoard, message}
+use Rattle.bsmp.specs.Packet.{Place, Result, refuse, placeTests, packetTests, served, packet, resultTests, functionResult, storeTests, boardStore, freshBoard, message}
 use Rattle.bsmp.specs.Store.{held, lentOf}
 use Rattle.bsmp.specs.Apart.{Event, arrives, returns, stores, freshens, happen, later}
 use Rattle.bsmp.specs.declared.VariableNumber.{VariableNumber}
@@ -30,9 +30,9 @@ use Rattle.bsmp.specs.declared.Command.the-variants.{MaskVariable, MaskG
 use Rattle.bsmp.proofs.Bools.{or-false, and-true}
 use Rattle.bsmp.proofs.Accepted.{judge-case}
 use Rattle.bsmp.proofs.Lists.{map-set, map-map, every-last, length-upFrom}
-use Rattle.bsmp.proofs.Chain.{clear, clear-at, broken-at, first-case}
+use Rattle.bsmp.proofs.Chain.{clear, clear-at, broken-at, first-case, first-clear}
 use Rattle.bsmp.proofs.Store.{cut-join, lengths-cut, sum-size}
-use Rattle.bsmp.proofs.Usable.{Usable, usable-parts, usable-whole, usable-by, usable-regrouped, clear-usable}
+use Rattle.bsmp.proofs.Usable.{Usable, usable-parts, usable-whole, usable-by, usable-regrouped, clear-usable, usable-clear}
 use Rattle.bsmp.proofs.Marks.{marks-below, marks-some, at-number}
 
 -- what a change must be to leave a usable board -----------------------------------------------------------------------------
@@ -95,6 +95,10 @@ fresh-usable t s h =
     usable-by t _ (full (layout t) s) refl refl refl
     (each-sixteen (λ c. curveSum (layout t) (full (layout t) s) (curve c)) 0 (t .curves) (λ c. length-digest _) ∙ sym (usable-parts t _ h .sums)) refl
     ∙ h
+
+pub fresh-state : (t : Table) (s : State) → usable t (full (layout t) s) ≡ true → freshBoard t s .state ≡ fresh (layout t) s
+unfolding freshBoard
+fresh-state t s h = ap (λ (x : Result). x .state) (first-clear (faults t _) (refuse s) _ (usable-clear t _ h))
 
 pub after-usable : (t : Table) (s : State) (ch : Change) → usable t s ≡ true → Fits t s ch → usable t (after ch s) ≡ true
 unfolding after

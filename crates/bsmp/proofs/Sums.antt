@@ -14,7 +14,7 @@ use Rattle.bsmp.specs.Base.{some, byteAt, Test}
 use Rattle.bsmp.specs.Codes.{commandOf}
 use Rattle.bsmp.specs.Board.{curve, Table, Layout, layout, State, sumOf, curveSum, full, fresh, marked, usable}
 use Rattle.bsmp.specs.Message.{line, curveAt, namesCurve, touched, formTests, replies, after, spoken, said, stateAfter, carried, handled, asked, judge}
-use Rattle.bsmp.specs.Packet.{Ending, reply, silence, Result, freshBoard, refuse}
+use Rattle.bsmp.specs.Packet.{Ending, reply, silence, freshBoard}
 use Rattle.bsmp.specs.Apart.{Event, arrives, endings}
 use Rattle.bsmp.specs.Examples.{hex, tableA, placeA, stateA}
 use Rattle.bsmp.specs.declared.CurveNumber.{CurveNumber}
@@ -22,9 +22,10 @@ use Rattle.bsmp.specs.declared.Command.the-variants.{ReadSum, RenewSum}
 use Rattle.bsmp.specs.declared.WireError.{WireError}
 use Rattle.bsmp.specs.declared.Check.the-variants.{Pass}
 use Rattle.bsmp.proofs.Computes.{computes}
-use Rattle.bsmp.proofs.Chain.{clear, clear-at, first-clear}
-use Rattle.bsmp.proofs.Usable.{usable-parts, usable-clear}
+use Rattle.bsmp.proofs.Chain.{clear, clear-at}
+use Rattle.bsmp.proofs.Usable.{usable-parts}
 use Rattle.bsmp.proofs.Accepted.{accepted}
+use Rattle.bsmp.proofs.Stays.{fresh-state}
 use Rattle.bsmp.proofs.Keeps.{curves-kept}
 use Rattle.bsmp.proofs.Marks.{at-number}
 
@@ -35,13 +36,10 @@ Current l s c = sumOf s c ≡ curveSum l s c
 -- "a fresh board works it out"
 pub fresh-current : (t : Table) (s : State) (c : CurveNumber) → usable t (full (layout t) s) ≡ true → c .0 < length (t .curves)
     → Current (layout t) (freshBoard t s .state) c
-unfolding freshBoard fresh
+unfolding fresh
 fresh-current t s c u h =
     let f : ℕ → List ℕ = λ k. curveSum (layout t) (full (layout t) s) (curve k) in
-    ap (λ (x : Result). sumOf (x .state) c) (first-clear _ (refuse s) _ (usable-clear t _ u))
-    ∙ at-number f 0 (length (t .curves)) (c .0) [] h
-    ∙ ap f (zero-add (c .0))
-    ∙ sym (ap (λ (x : Result). curveSum (layout t) (x .state) c) (first-clear _ (refuse s) _ (usable-clear t _ u)))
+    rw (fresh-state t s u) (at-number f 0 (length (t .curves)) (c .0) [] h ∙ ap f (zero-add (c .0)))
 
 -- "42 renews it", and no other message any; so "a block write leaves it stale": as it was, byte by byte
 pub stale : (l : Layout) (busy : ℕ) (m : List ℕ) (s : State) → commandOf (byteAt m 0) ≢ RenewSum → handled l busy m s .state .sums ≡ s .sums
