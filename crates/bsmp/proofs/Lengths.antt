@@ -13,13 +13,16 @@ use borrow.Author.Tests.{eqb-true, leb-true, not-false}
 use Rattle.md5.specs.Md5.{digest}
 use Rattle.bsmp.specs.Base.{byteAt, wordAt, join, upFrom, within}
 use Rattle.bsmp.specs.Codes.{commandOf}
-use Rattle.bsmp.specs.Board.{Table, Layout, layout, State, blockOf, curveOf, blockSizes, blockPlace, contentOf, curveSum, fitting, usable}
+use Rattle.bsmp.specs.Board.{Table, Layout, layout, State, withBlocks, withLengths, blockOf, curveOf, blockSizes, blockPlace, contentOf, curveSum, fitting, usable}
 use Rattle.bsmp.specs.Message.{fill, curveAt, testsOf, asked, line, replies, filled, after, spoken, said, stateAfter, carried, handled, judge}
-use Rattle.bsmp.specs.Packet.{Place}
-use Rattle.bsmp.specs.Apart.{Event, later}
+use Rattle.bsmp.specs.Packet.{Place, Ending, reply, silence, refused}
+use Rattle.bsmp.specs.Apart.{Event, freshens, happen, endings, later}
+use Rattle.bsmp.specs.Examples.{hex, tableA, placeA, stateA}
 use Rattle.bsmp.specs.declared.CurveNumber.{CurveNumber}
 use Rattle.bsmp.specs.declared.Command.the-variants.{ReadSum, ReadBlock, WriteBlock, RenewSum}
+use Rattle.bsmp.specs.declared.Refusal.the-variants.{BoardUnusable}
 use Rattle.bsmp.specs.declared.Check.the-variants.{Pass}
+use Rattle.bsmp.proofs.Computes.{computes}
 use Rattle.bsmp.proofs.Bools.{and-true}
 use Rattle.bsmp.proofs.Chain.{clear, clear-at}
 use Rattle.bsmp.proofs.Usable.{Usable, usable-parts}
@@ -27,7 +30,7 @@ use Rattle.bsmp.proofs.Accepted.{fail-no, judge-case, accepted}
 use Rattle.bsmp.proofs.Stale.{take-filled}
 use Rattle.bsmp.proofs.Stays.{Fits, block-bytes, line-fits, handled-usable, later-usable}
 use Rattle.bsmp.proofs.Keeps.{curves-kept}
-use Rattle.bsmp.proofs.Sums.{arrived}
+use Rattle.bsmp.proofs.Sums.{arrived, sent, answers, ok}
 
 -- "1 to the block size", "one per block" --------------------------------------------------------------------------------------
 pub fitting-count : (ms ns : List ℕ) → fitting ms ns ≡ true → length ns ≡ length ms
@@ -230,3 +233,53 @@ module _ (t : Table) (c : CurveNumber) where
   download-told {s′ = s′} u r n busy m k e v busy′ q k′ e′ v′ =
       arrived t busy m s′ (download-usable u r) k v busy′ q k′ (e′ ∙ sym e) v′
       ∙ ap (replies 0x0B) (ap (curveSum (layout t) s′) e ∙ downloaded u r n)
+
+-- computed on board A: "a download of 3 bytes" into block 1 after one of 4 ----------------------------------------------------
+abbrev four : List ℕ
+four = hex 12 0x05_41_00_07_00_00_01_01_02_03_04_A8
+
+abbrev three : List ℕ
+three = hex 11 0x05_41_00_06_00_00_01_0A_0B_0C_92
+
+abbrev read1 : List ℕ
+read1 = hex 8 0x05_40_00_03_00_00_01_B7
+
+-- it reads back as 3, and 42 sums these after block 0's 4; a longer write after it reads back longer; a multicast one is silent and sets block
+-- 0's length too; then no byte at all, and one too many, get E5
+pub lengths-read :
+    answers (four ∷ three ∷ read1 ∷ hex 6 0x05_42_00_01_00_B8 ∷ hex 6 0x05_0A_00_01_00_F0
+    ∷ hex 12 0x05_41_00_07_00_00_01_11_12_13_14_68 ∷ read1
+    ∷ hex 9 0xF8_41_00_04_00_00_00_77_4C ∷ hex 8 0x05_40_00_03_00_00_00_B8
+    ∷ hex 8 0x05_41_00_03_00_00_01_B6 ∷ hex 13 0x05_41_00_08_00_00_01_01_02_03_04_05_A2
+    ∷ []) (stateA 0x5A)
+    ≡ ok ∷ ok ∷ reply (hex 11 0x00_41_00_06_00_00_01_0A_0B_0C_97) ∷ ok ∷ reply (hex 21 0x00_0B_00_10_7F98260096789D22A77EAD2B9FCC54E2_3D)
+    ∷ ok ∷ reply (hex 12 0x00_41_00_07_00_00_01_11_12_13_14_6D)
+    ∷ silence ∷ reply (hex 9 0x00_41_00_04_00_00_00_77_44)
+    ∷ reply (hex 5 0x00_E5_00_00_1B) ∷ reply (hex 5 0x00_E5_00_00_1B) ∷ []
+unfolding computes
+lengths-read = refl
+
+-- "and the fourth is stale": it is still in the store ..
+abbrev shortened : State
+shortened = later tableA placeA (map sent (four ∷ three ∷ [])) (stateA 0x5A)
+
+pub fourth-stays : shortened ≡ withLengths (withBlocks (stateA 0x5A) (hex 4 0 ∷ hex 4 0x0A_0B_0C_04 ∷ [])) (4 ∷ 3 ∷ [])
+unfolding computes
+fourth-stays = refl
+
+-- .. and a fresh board, which makes the block full, brings it back
+pub fourth-back : endings tableA placeA (freshens ∷ sent read1 ∷ []) shortened ≡ silence ∷ reply (hex 12 0x00_41_00_07_00_00_01_0A_0B_0C_04_92) ∷ []
+unfolding computes
+fourth-back = refl
+
+-- "a length out of range, lengths not one per block .. make the board unusable": 0, 5, one too few, one too many; the edges are taken; and a fresh
+-- board takes what is out of range, as it goes by no length, and not a wrong number of them
+abbrev endsWith : Event → List ℕ → Ending
+endsWith e ns = happen tableA placeA e (withLengths (stateA 0x5A) ns) .ending
+
+pub lengths-refused :
+    (map (endsWith (sent three)) ((0 ∷ 4 ∷ []) ∷ (4 ∷ 5 ∷ []) ∷ (4 ∷ []) ∷ (4 ∷ 4 ∷ 4 ∷ []) ∷ (1 ∷ 4 ∷ []) ∷ [])
+    ≡ refused BoardUnusable ∷ refused BoardUnusable ∷ refused BoardUnusable ∷ refused BoardUnusable ∷ ok ∷ [])
+    × (map (endsWith freshens) ((0 ∷ 5 ∷ []) ∷ (4 ∷ []) ∷ (4 ∷ 4 ∷ 4 ∷ []) ∷ []) ≡ silence ∷ refused BoardUnusable ∷ refused BoardUnusable ∷ [])
+unfolding computes
+lengths-refused = (refl, refl)
