@@ -1,31 +1,26 @@
--- Demand 3, proved over demand 2's definition. Assumes nothing.
+-- Demand 3, proved over demand 2's definition: Hidden's steps, with one variable's bytes hidden. Assumes nothing.
 use mathlib.Core.Path.{_≡_, refl, sym, ap, ap₂, _∙_, subst, fun-ext}
 use mathlib.Core.Logic.{_↔_, _≢_, ⊎-elim}
-use mathlib.Core.Bool.{Bool, true, false, cond, not, _&&_, false≢true}
+use mathlib.Core.Bool.{Bool, true, false, _&&_, false≢true}
 use mathlib.Core.List.{List, [], _∷_, _++_, map}
 use Prim.Native.Nat.{ℕ, suc, _+_}
 use native.Mathlib.Omega.{arith}
 use native.Mathlib.Decide.{ℕ-discrete}
 use lib.ListN.{length, take, drop, set, getD, length-append}
 use borrow.Author.Tests.{eqb-true, eqb-false}
-use Rattle.bsmp.specs.Base.{some, first, Test, join, upFrom}
+use Rattle.bsmp.specs.Base.{some, join, upFrom}
 use Rattle.md5.specs.Md5.{digest}
-use Rattle.bsmp.specs.Board.{variable, curve, Table, Layout, layout, State, valueOf, blockSizes, curveOf, blockPlace, contentOf, contentsOf, fullLengths, full, fresh, isSame, usable, faults}
-use Rattle.bsmp.specs.Message.{Change, nothing, edit, fill, renew, regroup, Answer, say, tell, show, attest, call, Line, changed, edited, filled, after, valuesOf, replies, spoken, said, stateAfter, carried, handled, asked, judge}
-use Rattle.bsmp.specs.Packet.{Place, Ending, reply, silence, Result, frame, ends, ended, served, refuse, isOwn, destination, message}
-use Rattle.bsmp.specs.Packet.{placeTests, packetTests, packet, Ran, ranSays, resultTests, functionResult, storeTests, boardStore, freshBoard}
-use Rattle.bsmp.specs.Apart.{Alike, Event, arrives, returns, stores, freshens, happen, tells, readBy, readsIn, reads, answerOf, Apart, endings, later, unread}
+use Rattle.bsmp.specs.Board.{variable, curve, Table, Layout, State, valueOf, blockSizes, curveOf, blockPlace, contentOf, contentsOf, fullLengths, full, fresh, isSame, usable, faults}
+use Rattle.bsmp.specs.Message.{Change, nothing, edit, fill, renew, regroup, Answer, say, tell, show, attest, call, changed, edited, filled, after, valuesOf, replies, spoken}
+use Rattle.bsmp.specs.Packet.{Place, reply, frame, ends}
+use Rattle.bsmp.specs.Apart.{Alike, Event, happen, tells, reads, answerOf, Apart, endings, later, unread}
 use Rattle.bsmp.specs.declared.VariableNumber.{VariableNumber}
 use Rattle.bsmp.specs.declared.CurveNumber.{CurveNumber}
-use Rattle.bsmp.specs.declared.FunctionNumber.{FunctionNumber}
 use Rattle.bsmp.specs.declared.Operation.{Operation}
-use Rattle.bsmp.specs.declared.Operation.the-variants.{Replace}
-use Rattle.bsmp.specs.declared.Refusal.{Refusal}
-use Rattle.bsmp.specs.declared.Check.{Check}
-use Rattle.bsmp.specs.declared.Check.the-variants.{Pass, Fail}
 use Rattle.bsmp.proofs.Bools.{or-false, or-true, and-false}
 use Rattle.bsmp.proofs.Usable.{usable-by, faults-by}
-use Rattle.bsmp.proofs.Lists.{map-set, length-at, set-at, count-same, parts}
+use Rattle.bsmp.proofs.Lists.{map-set, length-at, set-at, count-same, parts, every-by}
+use Rattle.bsmp.proofs.Hidden.{Hidden, step as hidden-step, before as hidden-before}
 
 -- numbers of variables
 pub other-number : (i v : VariableNumber) → isSame v i ≡ false → i ≢ v
@@ -63,8 +58,8 @@ edited-near v op (i ∷ is) (p ∷ ps) xs ys h = edited-near v op is ps _ _ reco
 content-same : (v : VariableNumber) (s₁ s₂ : State) → Alike v s₁ s₂ → (k : ℕ) → contentOf s₁ k ≡ contentOf s₂ k
 content-same v s₁ s₂ h k = ap₂ (λ ns bs. take (getD ns k 0) (getD bs k [])) (h .lengths) (h .blocks)
 
-contents-same : (v : VariableNumber) (s₁ s₂ : State) → Alike v s₁ s₂ → (k n : ℕ) → contentsOf s₁ k n ≡ contentsOf s₂ k n
-contents-same v s₁ s₂ h k n = ap (λ f. join (map f (upFrom k n))) (fun-ext (content-same v s₁ s₂ h))
+pub contents-same : (s₁ s₂ : State) → ((k : ℕ) → contentOf s₁ k ≡ contentOf s₂ k) → (k n : ℕ) → contentsOf s₁ k n ≡ contentsOf s₂ k n
+contents-same s₁ s₂ h k n = ap (λ f. join (map f (upFrom k n))) (fun-ext h)
 
 after-alike : (v : VariableNumber) (ch : Change) (s₁ s₂ : State) → Alike v s₁ s₂ → Alike v (after ch s₁) (after ch s₂)
 unfolding after
@@ -87,7 +82,7 @@ after-alike v (renew c k n) s₁ s₂ h = record {
   sizes = h .sizes;
   blocks = h .blocks;
   lengths = h .lengths;
-  sums = ap₂ (λ ds m. set ds (c .0) (digest m)) (h .sums) (contents-same v s₁ s₂ h k n);
+  sums = ap₂ (λ ds m. set ds (c .0) (digest m)) (h .sums) (contents-same s₁ s₂ (content-same v s₁ s₂ h) k n);
   groups = h .groups;
 }
 after-alike v (regroup gs) s₁ s₂ h = record { others = h .others; sizes = h .sizes; blocks = h .blocks; lengths = h .lengths; sums = h .sums; groups = refl }
@@ -113,7 +108,7 @@ fresh-alike v l s₁ s₂ h =
       blocks = f .blocks;
       lengths = f .lengths;
       sums = ap (λ (g : CurveNumber → List ℕ). map (λ c. digest (g (curve c))) (upFrom 0 (length (l .curves))))
-          (fun-ext (λ c. contents-same v _ _ f (blockPlace l c 0) (curveOf l c .blocks)));
+          (fun-ext (λ c. contents-same (full l s₁) (full l s₂) (content-same v _ _ f) (blockPlace l c 0) (curveOf l c .blocks)));
       groups = f .groups;
     }
 
@@ -176,109 +171,28 @@ module _ (v : VariableNumber) (s₁ s₂ : State) (h : Alike v s₁ s₂) where
   spoken-told due (attest c n) e = absurd (and-false due e)
   spoken-told due (call f i) e = absurd (and-false due e)
 
--- packets, results and stores ------------------------------------------------------------------------------------------------
-quiet : (v : VariableNumber) (e : Ending) (s₁ s₂ : State) → Alike v s₁ s₂
-    → Apart v (record { ending = e; state = s₁ }) (record { ending = e; state = s₂ }) false
-quiet v e s₁ s₂ h = record { alike = h; same = λ r. refl; shows = λ r. absurd (false≢true r) }
-
-carried-apart : (v : VariableNumber) (due : Bool) (l : Line) (c : Check) (s₁ s₂ : State) → Alike v s₁ s₂
-    → Apart v (ended due (carried l c s₁)) (ended due (carried l c s₂)) (due && readBy v l c)
-unfolding carried said stateAfter
-carried-apart v due l (Fail x) s₁ s₂ h = record { alike = h; same = λ e. refl; shows = λ e. absurd (and-false due e) }
-carried-apart v due l Pass s₁ s₂ h =
-    let k : Alike v (after (l .change) s₁) (after (l .change) s₂) = after-alike v (l .change) s₁ s₂ h in
-    record { alike = k; same = spoken-same v _ _ k due (l .answer); shows = spoken-told v _ _ k due (l .answer) }
-
-served-apart : (l : Layout) (v : VariableNumber) (busy : ℕ) (due : Bool) (m : List ℕ) (s₁ s₂ : State) → Alike v s₁ s₂
-    → Apart v (served l busy due m s₁) (served l busy due m s₂) (due && readsIn l (s₁ .groups) busy m v)
-unfolding served handled
-served-apart l v busy due m s₁ s₂ h =
-    subst (λ gs. Apart v (ended due (carried (asked l (s₁ .groups) m) (judge l (s₁ .groups) busy m) s₁))
-    (ended due (carried (asked l gs m) (judge l gs busy m) s₂)) (due && readsIn l (s₁ .groups) busy m v))
-    (h .groups) (carried-apart v due (asked l (s₁ .groups) m) (judge l (s₁ .groups) busy m) s₁ s₂ h)
-
-cond-apart : (v : VariableNumber) (b : Bool) {x₁ y₁ x₂ y₂ : Result} {z₁ z₂ : Bool} → Apart v x₁ y₁ z₁ → Apart v x₂ y₂ z₂
-    → Apart v (cond b x₁ x₂) (cond b y₁ y₂) (cond b z₁ z₂)
-cond-apart v true p q = p
-cond-apart v false p q = q
-
--- a refusal is the same on both boards and leaves both alone
-first-apart : (v : VariableNumber) (ts : List (Test Refusal)) (s₁ s₂ : State) (x y : Result) (z : Bool) → Alike v s₁ s₂ → Apart v x y z
-    → Apart v (first ts (refuse s₁) x) (first ts (refuse s₂) y) (first ts (λ r. false) z)
-unfolding first
-first-apart v [] s₁ s₂ x y z a h = h
-first-apart v (u ∷ us) s₁ s₂ x y z a h =
-    cond-apart v (u .broken) (quiet v (Ending.refused (u .error)) s₁ s₂ a) (first-apart v us s₁ s₂ x y z a h)
-
--- an entry that never reads
-cond-quiet : (v : VariableNumber) (b : Bool) {x₁ y₁ x₂ y₂ : Result} → Apart v x₁ y₁ false → Apart v x₂ y₂ false → Apart v (cond b x₁ x₂) (cond b y₁ y₂) false
-cond-quiet v true p q = p
-cond-quiet v false p q = q
-
-first-quiet : (v : VariableNumber) (ts : List (Test Refusal)) (s₁ s₂ : State) (x y : Result) → Alike v s₁ s₂ → Apart v x y false
-    → Apart v (first ts (refuse s₁) x) (first ts (refuse s₂) y) false
-unfolding first
-first-quiet v [] s₁ s₂ x y a h = h
-first-quiet v (u ∷ us) s₁ s₂ x y a h =
-    cond-quiet v (u .broken) (quiet v (Ending.refused (u .error)) s₁ s₂ a) (first-quiet v us s₁ s₂ x y a h)
-
-packet-apart : (t : Table) (a : Place) (v : VariableNumber) (busy room : ℕ) (p : List ℕ) (s₁ s₂ : State) → Alike v s₁ s₂
-    → Apart v (packet t a busy room p s₁) (packet t a busy room p s₂) (reads t a v (arrives busy room p) s₁)
-unfolding packet
-packet-apart t a v busy room p s₁ s₂ h =
-    rw (← faults-alike t v s₁ s₂ h)
-    (first-apart v (faults t s₁) s₁ s₂ _ _ _ h
-    (first-apart v (placeTests a room) s₁ s₂ _ _ _ h
-    (first-apart v (packetTests a p) s₁ s₂ _ _ _ h
-    (served-apart (layout t) v busy (isOwn a (destination p)) (message p) s₁ s₂ h))))
-
-result-apart : (t : Table) (v : VariableNumber) (room : ℕ) (f : FunctionNumber) (due : Bool) (r : Ran) (s₁ s₂ : State) → Alike v s₁ s₂
-    → Apart v (functionResult t room f due r s₁) (functionResult t room f due r s₂) false
-unfolding functionResult
-result-apart t v room f due r s₁ s₂ h =
-    rw (← faults-alike t v s₁ s₂ h)
-    (first-quiet v (faults t s₁) s₁ s₂ _ _ h
-    (first-quiet v (resultTests (layout t) room f r) s₁ s₂ _ _ h (quiet v (ends due (ranSays r)) s₁ s₂ h)))
-
-store-apart : (t : Table) (v i : VariableNumber) (b : List ℕ) (s₁ s₂ : State) → Alike v s₁ s₂
-    → Apart v (boardStore t i b s₁) (boardStore t i b s₂) false
-unfolding boardStore
-store-apart t v i b s₁ s₂ h =
-    rw (← faults-alike t v s₁ s₂ h)
-    (first-quiet v (faults t s₁) s₁ s₂ _ _ h
-    (first-quiet v (storeTests (layout t) i b) s₁ s₂ _ _ h
-    (quiet v silence _ _ (after-alike v (edit Replace (i ∷ []) (b ∷ [])) s₁ s₂ h))))
-
-fresh-apart : (t : Table) (v : VariableNumber) (s₁ s₂ : State) → Alike v s₁ s₂ → Apart v (freshBoard t s₁) (freshBoard t s₂) false
-unfolding freshBoard
-fresh-apart t v s₁ s₂ h =
-    rw (← faults-alike t v _ _ (full-alike v (layout t) s₁ s₂ h))
-    (first-quiet v (faults t (full (layout t) s₁)) s₁ s₂ _ _ h (quiet v silence _ _ (fresh-alike v (layout t) s₁ s₂ h)))
+-- demand 3 -----------------------------------------------------------------------------------------------------------------
+-- every event keeps v hidden
+hidden : (v : VariableNumber) → Hidden (Alike v) (λ s₁ s₂. valueOf s₁ v ≡ valueOf s₂ v) (tells v) (λ e. true)
+hidden v = record {
+  groups = λ s₁ s₂ h. h .groups;
+  taken = λ t s₁ s₂ h. usable-alike t v s₁ s₂ h;
+  kept = after-alike v;
+  freshened = λ k l s₁ s₂ h. (full-alike v l s₁ s₂ h, fresh-alike v l s₁ s₂ h);
+  untold = spoken-same v;
+  told = spoken-told v;
+}
 
 -- one event
 pub step : (t : Table) (a : Place) (v : VariableNumber) (e : Event) (s₁ s₂ : State) → Alike v s₁ s₂
-    → Apart v (happen t a e s₁) (happen t a e s₂) (reads t a v e s₁)
-step t a v (arrives busy room p) s₁ s₂ h = packet-apart t a v busy room p s₁ s₂ h
-step t a v (returns room f due r) s₁ s₂ h = result-apart t v room f due r s₁ s₂ h
-step t a v (stores i b) s₁ s₂ h = store-apart t v i b s₁ s₂ h
-step t a v freshens s₁ s₂ h = fresh-apart t v s₁ s₂ h
-
-pub unread-head : (a b : Bool) → (not a && b) ≡ true → (a ≡ false) × (b ≡ true)
-unread-head true b e = absurd (false≢true e)
-unread-head false b e = (refl, e)
+    → Apart (Alike v) (λ x₁ x₂. valueOf x₁ v ≡ valueOf x₂ v) (happen t a e s₁) (happen t a e s₂) (reads t a v e s₁)
+step t a v e s₁ s₂ h = hidden-step (hidden v) t a e s₁ s₂ refl h
 
 module _ (t : Table) (a : Place) (v : VariableNumber) where
   -- all events before the first that reads v
   pub before : (es : List Event) (s₁ s₂ : State) → Alike v s₁ s₂ → unread t a v es s₁ ≡ true
       → (endings t a es s₁ ≡ endings t a es s₂) × Alike v (later t a es s₁) (later t a es s₂)
-  before [] s₁ s₂ h u = (refl, h)
-  before (e ∷ es) s₁ s₂ h u =
-      let q : (reads t a v e s₁ ≡ false) × (unread t a v es (happen t a e s₁ .state) ≡ true) = unread-head _ _ u in
-      let w : Apart v (happen t a e s₁) (happen t a e s₂) (reads t a v e s₁) = step t a v e s₁ s₂ h in
-      let r : (endings t a es (happen t a e s₁ .state) ≡ endings t a es (happen t a e s₂ .state))
-      × Alike v (later t a es (happen t a e s₁ .state)) (later t a es (happen t a e s₂ .state)) =
-      before es _ _ (w .alike) (q .1) in
-      (ap₂ _∷_ (w .same (q .0)) (r .0), r .1)
+  before es s₁ s₂ h u = hidden-before (hidden v) t a es s₁ s₂ (every-by _ es (λ e. refl)) h u
 
   -- demand 3, whole: events that do not read v, and then one that does
   pub apart : (es : List Event) (e : Event) (s₁ s₂ : State) → Alike v s₁ s₂ → unread t a v es s₁ ≡ true → reads t a v e (later t a es s₁) ≡ true

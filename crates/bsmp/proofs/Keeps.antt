@@ -1,11 +1,16 @@
--- What nothing changes: a local refusal, a wire error; and a multicast is never answered. Assumes nothing.
+-- What nothing changes: a local refusal, a wire error, and for most of what a board holds all but a few commands; and a multicast is never
+-- answered. Assumes nothing.
 use mathlib.Core.Path.{_≡_, refl, ap, _∙_}
+use mathlib.Core.Logic.{_≢_}
 use mathlib.Core.Bool.{Bool, true, false}
 use mathlib.Core.List.{List}
 use Prim.Native.Nat.{ℕ}
 use native.Mathlib.Omega.{arith}
-use Rattle.bsmp.specs.Board.{Table, Layout, layout, State, withValues, withLengths, withSums, full, fresh, faults}
-use Rattle.bsmp.specs.Message.{Said, replies, runs, after, carried, stateAfter, handled, asked, judge}
+use lib.ListN.{drop}
+use Rattle.bsmp.specs.Base.{byteAt}
+use Rattle.bsmp.specs.Codes.{commandOf}
+use Rattle.bsmp.specs.Board.{Table, Layout, layout, State, withValues, withLengths, withSums, withGroups, full, fresh, faults}
+use Rattle.bsmp.specs.Message.{Said, replies, runs, line, after, carried, stateAfter, handled, asked, judge}
 use Rattle.bsmp.specs.Packet.{Place, Ending, reply, silence, run, Result, refuse, Ran, ends, placeTests, packetTests, served, packet, resultTests, functionResult, storeTests, boardStore, freshBoard, isOwn, destination}
 use Rattle.bsmp.specs.Store.{Lent, held, lentOf, outcomeOf, shown}
 use Rattle.bsmp.specs.Apart.{Event, arrives, returns, stores, freshens, happen, Call, eventOf, bufferOf, leftBy}
@@ -15,13 +20,59 @@ use Rattle.bsmp.specs.declared.Refusal.{Refusal}
 use Rattle.bsmp.specs.declared.WireError.{WireError}
 use Rattle.bsmp.specs.declared.Check.the-variants.{Fail}
 use Rattle.bsmp.specs.declared.Outcome.the-variants.{Refused}
+use Rattle.bsmp.specs.declared.Command.{Command}
+use Rattle.bsmp.specs.declared.Command.the-variants.{Version, ListVariables, ListGroups, ShowGroup, ListCurves, ReadSum, ListFunctions, ReadVariable, ReadGroup, WriteVariable, WriteGroup}
+use Rattle.bsmp.specs.declared.Command.the-variants.{MaskVariable, MaskGroup, WriteRead, MakeGroup, RemoveGroups, ReadBlock, WriteBlock, RenewSum, RunFunction, Unknown}
 use Rattle.bsmp.proofs.Chain.{first-case}
+use Rattle.bsmp.proofs.Accepted.{judge-case}
 use Rattle.bsmp.proofs.Store.{lent-held}
 
 -- "An error changes values, curves and groups in no byte"
 pub error-keeps : (l : Layout) (busy : ℕ) (m : List ℕ) (s : State) (e : WireError) → judge l (s .groups) busy m ≡ Fail e → handled l busy m s .state ≡ s
 unfolding handled carried stateAfter
 error-keeps l busy m s e h = ap (λ v. stateAfter (asked l (s .groups) m) v s) h
+
+-- of the curves, a sum is changed by 42 alone, a block and its length by 41 alone
+pub record CurvesKept (k : Command) (s s′ : State) : Type 0 where
+  pub sums : k ≢ RenewSum → s′ .sums ≡ s .sums
+  pub blocks : k ≢ WriteBlock → s′ .blocks ≡ s .blocks
+  pub lengths : k ≢ WriteBlock → s′ .lengths ≡ s .lengths
+
+module _ (s : State) where
+  kept : {k : Command} {vs : List (List ℕ)} {gs : List ℕ} → CurvesKept k s (withGroups (withValues s vs) gs)
+  kept = record { sums = λ n. refl; blocks = λ n. refl; lengths = λ n. refl }
+
+  line-keeps : (l : Layout) (gs p : List ℕ) (k : Command) → CurvesKept k s (after (line l gs p k .change) s)
+  unfolding line after
+  line-keeps l gs p = elim [
+    | Version ↦ kept
+    | ListVariables ↦ kept
+    | ListGroups ↦ kept
+    | ShowGroup ↦ kept
+    | ListCurves ↦ kept
+    | ReadSum ↦ kept
+    | ListFunctions ↦ kept
+    | ReadVariable ↦ kept
+    | ReadGroup ↦ kept
+    | WriteVariable ↦ kept
+    | WriteGroup ↦ kept
+    | MaskVariable ↦ kept
+    | MaskGroup ↦ kept
+    | WriteRead ↦ kept
+    | MakeGroup ↦ kept
+    | RemoveGroups ↦ kept
+    | ReadBlock ↦ kept
+    | WriteBlock ↦ record { sums = λ n. refl; blocks = λ n. absurd (n refl); lengths = λ n. absurd (n refl) }
+    | RenewSum ↦ record { sums = λ n. absurd (n refl); blocks = λ n. refl; lengths = λ n. refl }
+    | RunFunction ↦ kept
+    | Unknown ↦ kept
+  ]
+
+pub curves-kept : (l : Layout) (busy : ℕ) (m : List ℕ) (s : State) → CurvesKept (commandOf (byteAt m 0)) s (handled l busy m s .state)
+unfolding handled carried stateAfter
+curves-kept l busy m s =
+    judge-case l (s .groups) busy m (λ v. CurvesKept (commandOf (byteAt m 0)) s (stateAfter (asked l (s .groups) m) v s)) (λ e. kept s)
+    (λ f c. line-keeps s l (s .groups) (drop 3 m) (commandOf (byteAt m 0)))
 
 -- the ending is no local refusal
 abbrev Allowed : Ending → Type 0

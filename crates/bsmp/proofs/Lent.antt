@@ -1,23 +1,24 @@
--- Demand 3 over the lent flat stores and the reply buffer's bytes, as an entry sees them. Assumes nothing.
+-- Demand 3 over the lent flat stores and the reply buffer's bytes, as an entry sees them; and the same of stale bytes. Assumes nothing.
 use mathlib.Core.Path.{_≡_, refl, sym, ap, ap₂, _∙_, subst, subst₂}
-use mathlib.Core.Logic.{_↔_, _≢_}
+use mathlib.Core.Logic.{_↔_}
 use mathlib.Core.Bool.{true}
 use mathlib.Core.List.{List, [], _∷_, map}
 use Prim.Native.Nat.{ℕ, _≤_, _<_}
 use native.Mathlib.Omega.{arith}
 use native.Mathlib.Decide.{decLt}
-use lib.ListN.{length, drop, length-map, List·getD-eq-default}
+use lib.ListN.{length, take, drop, getD, length-map, List·getD-eq-default}
 use lib.Seq.{take-at}
-use Rattle.bsmp.specs.Base.{sum, cut, join}
-use Rattle.bsmp.specs.Board.{Table, Layout, layout, State, valueOf, blockSizes, sumSizes, usable}
+use Rattle.bsmp.specs.Base.{sum, cut}
+use Rattle.bsmp.specs.Board.{Table, Layout, layout, State, valueOf, blockSizes, contentOf, sumSizes, usable}
 use Rattle.bsmp.specs.Packet.{Place, Ending, reply, silence, run, Result}
-use Rattle.bsmp.specs.Store.{Lent, held, lentOf, bytesIn, outcomeOf, shown}
-use Rattle.bsmp.specs.Apart.{Alike, happen, reads, answerOf, endings, later, unread}
-use Rattle.bsmp.specs.Apart.{Call, eventOf, bufferOf, leftBy, Seen, answerIn, seenOf, seenAll, lentAfter, LentAlike}
+use Rattle.bsmp.specs.Store.{Lent, held, lentOf, start, bytesIn, contentIn, outcomeOf, shown}
+use Rattle.bsmp.specs.Apart.{Alike, AlikeButStale, happen, reads, answerOf, endings, later, unread, neverFresh}
+use Rattle.bsmp.specs.Apart.{Call, eventOf, bufferOf, leftBy, Seen, answerIn, seenOf, seenAll, lentAfter, LentAlike, LentAlikeButStale}
 use Rattle.bsmp.specs.declared.VariableNumber.{VariableNumber}
-use Rattle.bsmp.proofs.Store.{join-cut, piece, sum-lengths}
+use Rattle.bsmp.proofs.Store.{join-cut, cut-unique, piece, sum-lengths}
 use Rattle.bsmp.proofs.Usable.{usable-parts}
 use Rattle.bsmp.proofs.Apart.{step, before}
+use Rattle.bsmp.proofs.Stale.{stale-apart}
 use Rattle.bsmp.proofs.Stays.{stays, later-usable, held-again}
 
 -- a variable's bytes in the store are its value
@@ -41,41 +42,81 @@ seen-ending t a c x =
     ap (λ b. record { outcome = outcomeOf e; answer = b }) (answer-in e (bufferOf c))
 
 -- boards alike in their stores are alike in the definition, and back ---------------------------------------------------------
-module _ (t : Table) (v : VariableNumber) where
+-- what holds of stores piece by piece holds of their pieces by number, as past the last there is nothing
+past-end : (ns l : List ℕ) → map length (cut ns l) ≡ ns → (i : ℕ) → length ns ≤ i → getD (cut ns l) i [] ≡ []
+past-end ns l h i k =
+    List·getD-eq-default (cut ns l) [] (let n : length (cut ns l) ≡ length ns = sym (length-map (cut ns l) length) ∙ ap length h in omega arith)
+
+by-piece : (f₁ f₂ : List ℕ → List ℕ) → f₁ [] ≡ f₂ [] → (ns l₁ l₂ : List ℕ) → map length (cut ns l₁) ≡ ns → map length (cut ns l₂) ≡ ns → (i : ℕ)
+    → (i < length ns → f₁ (take (getD ns i 0) (drop (start ns i) l₁)) ≡ f₂ (take (getD ns i 0) (drop (start ns i) l₂)))
+    → f₁ (getD (cut ns l₁) i []) ≡ f₂ (getD (cut ns l₂) i [])
+by-piece f₁ f₂ e ns l₁ l₂ h₁ h₂ i g = by (decLt i (length ns))
+  where
+    by : Dec (i < length ns) → f₁ (getD (cut ns l₁) i []) ≡ f₂ (getD (cut ns l₂) i [])
+    by (yes k) = ap f₁ (piece ns l₁ i k) ∙ g k ∙ sym (ap f₂ (piece ns l₂ i k))
+    by (no k) = ap f₁ (past-end ns l₁ h₁ i (omega arith)) ∙ e ∙ sym (ap f₂ (past-end ns l₂ h₂ i (omega arith)))
+
+whole : (ns l : List ℕ) → sum (map length (cut ns l)) ≡ length l
+whole ns l = sum-lengths (cut ns l) ∙ ap length (join-cut ns l)
+
+-- stores whose pieces have equal lengths are equally long
+sizes-alike : (ns l₁ l₂ : List ℕ) → map length (cut ns l₁) ≡ map length (cut ns l₂) → length l₁ ≡ length l₂
+sizes-alike ns l₁ l₂ h = sym (whole ns l₁) ∙ ap (λ l. sum l) h ∙ whole ns l₂
+
+module _ (t : Table) where
   abbrev L : Layout
   L = layout t
 
-  values-kept : (x : Lent) → usable t (held L x) ≡ true → map length (held L x .values) ≡ L .sizes
-  values-kept x h = usable-parts t (held L x) h .values
+  -- but for a variable's bytes
+  module _ (v : VariableNumber) where
+    pub alike-held : (x₁ x₂ : Lent) → usable t (held L x₁) ≡ true → usable t (held L x₂) ≡ true → LentAlike L v x₁ x₂ → Alike v (held L x₁) (held L x₂)
+    alike-held x₁ x₂ u₁ u₂ h =
+        let k₁ : map length (held L x₁ .values) ≡ L .sizes = usable-parts t (held L x₁) u₁ .values in
+        let k₂ : map length (held L x₂ .values) ≡ L .sizes = usable-parts t (held L x₂) u₂ .values in
+        record {
+          others = λ i n. by-piece (λ p. p) (λ p. p) refl (L .sizes) (x₁ .values) (x₂ .values) k₁ k₂ (i .0) (λ k. h .others i k n);
+          sizes = k₁ ∙ sym k₂;
+          blocks = ap (cut (blockSizes (t .curves))) (h .blocks);
+          lengths = h .lengths;
+          sums = ap (cut (sumSizes (t .curves))) (h .sums);
+          groups = h .groups;
+        }
 
-  past-end : (x : Lent) → usable t (held L x) ≡ true → (i : VariableNumber) → length (L .sizes) ≤ i .0 → valueOf (held L x) i ≡ []
-  past-end x h i k =
-      List·getD-eq-default (held L x .values) [] (let n : length (held L x .values) ≡ length (L .sizes) = sym (length-map (held L x .values) length) ∙ ap length (values-kept x h) in omega arith)
+    pub held-alike : (x₁ x₂ : Lent) → Alike v (held L x₁) (held L x₂) → LentAlike L v x₁ x₂
+    held-alike x₁ x₂ h = record {
+      others = λ i k n. sym (value-in L x₁ i k) ∙ h .others i n ∙ value-in L x₂ i k;
+      size = sizes-alike (L .sizes) (x₁ .values) (x₂ .values) (h .sizes);
+      blocks = cut-unique (blockSizes (t .curves)) _ (x₁ .blocks) (x₂ .blocks) (h .blocks) refl;
+      lengths = h .lengths;
+      sums = cut-unique (sumSizes (t .curves)) _ (x₁ .sums) (x₂ .sums) (h .sums) refl;
+      groups = h .groups;
+    }
 
-  pub alike-held : (x₁ x₂ : Lent) → usable t (held L x₁) ≡ true → usable t (held L x₂) ≡ true → LentAlike L v x₁ x₂ → Alike v (held L x₁) (held L x₂)
-  alike-held x₁ x₂ u₁ u₂ h = record {
-    others = λ i n. by i n (decLt (i .0) (length (L .sizes)));
-    sizes = values-kept x₁ u₁ ∙ sym (values-kept x₂ u₂);
-    blocks = ap (cut (blockSizes (t .curves))) (h .blocks);
+  -- but for stale bytes
+  content-in : (x : Lent) (k : ℕ) → k < length (blockSizes (t .curves)) → contentOf (held L x) k ≡ contentIn L x k
+  content-in x k h = ap (take (getD (x .lengths) k 0)) (piece (blockSizes (t .curves)) (x .blocks) k h)
+
+  stale-held : (x₁ x₂ : Lent) → usable t (held L x₁) ≡ true → usable t (held L x₂) ≡ true → LentAlikeButStale L x₁ x₂ → AlikeButStale (held L x₁) (held L x₂)
+  stale-held x₁ x₂ u₁ u₂ h =
+      let k₁ : map length (held L x₁ .blocks) ≡ blockSizes (t .curves) = usable-parts t (held L x₁) u₁ .blocks in
+      let k₂ : map length (held L x₂ .blocks) ≡ blockSizes (t .curves) = usable-parts t (held L x₂) u₂ .blocks in
+      record {
+        values = ap (cut (L .sizes)) (h .values);
+        contents = λ k. by-piece (take (getD (x₁ .lengths) k 0)) (take (getD (x₂ .lengths) k 0)) (ap (λ ns. take (getD ns k 0) []) (h .lengths))
+            (blockSizes (t .curves)) (x₁ .blocks) (x₂ .blocks) k₁ k₂ k (h .contents k);
+        sizes = k₁ ∙ sym k₂;
+        lengths = h .lengths;
+        sums = ap (cut (sumSizes (t .curves))) (h .sums);
+        groups = h .groups;
+      }
+
+  held-stale : (x₁ x₂ : Lent) → AlikeButStale (held L x₁) (held L x₂) → LentAlikeButStale L x₁ x₂
+  held-stale x₁ x₂ h = record {
+    values = cut-unique (L .sizes) _ (x₁ .values) (x₂ .values) (h .values) refl;
+    contents = λ k n. sym (content-in x₁ k n) ∙ h .contents k ∙ content-in x₂ k n;
+    size = sizes-alike (blockSizes (t .curves)) (x₁ .blocks) (x₂ .blocks) (h .sizes);
     lengths = h .lengths;
-    sums = ap (cut (sumSizes (t .curves))) (h .sums);
-    groups = h .groups;
-  }
-    where
-      by : (i : VariableNumber) → i ≢ v → Dec (i .0 < length (L .sizes)) → valueOf (held L x₁) i ≡ valueOf (held L x₂) i
-      by i n (yes k) = value-in L x₁ i k ∙ h .others i k n ∙ sym (value-in L x₂ i k)
-      by i n (no k) = past-end x₁ u₁ i (omega arith) ∙ sym (past-end x₂ u₂ i (omega arith))
-
-  whole : (x : Lent) → sum (map length (held L x .values)) ≡ length (x .values)
-  whole x = sum-lengths (held L x .values) ∙ ap length (join-cut (L .sizes) (x .values))
-
-  pub held-alike : (x₁ x₂ : Lent) → Alike v (held L x₁) (held L x₂) → LentAlike L v x₁ x₂
-  held-alike x₁ x₂ h = record {
-    others = λ i k n. sym (value-in L x₁ i k) ∙ h .others i n ∙ value-in L x₂ i k;
-    size = sym (whole x₁) ∙ ap (λ l. sum l) (h .sizes) ∙ whole x₂;
-    blocks = sym (join-cut (blockSizes (t .curves)) (x₁ .blocks)) ∙ ap join (h .blocks) ∙ join-cut (blockSizes (t .curves)) (x₂ .blocks);
-    lengths = h .lengths;
-    sums = sym (join-cut (sumSizes (t .curves)) (x₁ .sums)) ∙ ap join (h .sums) ∙ join-cut (sumSizes (t .curves)) (x₂ .sums);
+    sums = cut-unique (sumSizes (t .curves)) _ (x₁ .sums) (x₂ .sums) (h .sums) refl;
     groups = h .groups;
   }
 
@@ -90,6 +131,22 @@ module _ (t : Table) (a : Place) where
       ap (λ y. held (layout t) (lentOf (happen t a (eventOf c) y .state))) h ∙ held-again t s′ (stays t a (eventOf c) s u) in
       let r = run-seen cs (lentOf (leftBy t a c x .holds)) s′ (stays t a (eventOf c) s u) n in
       (ap₂ _∷_ (seen-ending t a c x ∙ ap (λ y. seenEnding (happen t a (eventOf c) y .ending)) h) (r .0), r .1)
+
+-- so what a run of events leaves alike, with all endings alike, is left alike by runs of calls for these events, with all that is seen alike
+module _ (t : Table) (a : Place) (R : State → State → Type 0) (x₁ x₂ : Lent)
+    (u₁ : usable t (held (layout t) x₁) ≡ true) (u₂ : usable t (held (layout t) x₂) ≡ true)
+    (cs₁ cs₂ : List Call) (same : map eventOf cs₁ ≡ map eventOf cs₂) where
+  pub states : (endings t a (map eventOf cs₁) (held (layout t) x₁) ≡ endings t a (map eventOf cs₁) (held (layout t) x₂))
+      × R (later t a (map eventOf cs₁) (held (layout t) x₁)) (later t a (map eventOf cs₁) (held (layout t) x₂))
+      → R (held (layout t) (lentAfter t a cs₁ x₁)) (held (layout t) (lentAfter t a cs₂ x₂)) × (seenAll t a cs₁ x₁ ≡ seenAll t a cs₂ x₂)
+  states b =
+      let r₁ = run-seen t a cs₁ x₁ (held (layout t) x₁) u₁ refl in
+      let r₂ = run-seen t a cs₂ x₂ (held (layout t) x₂) u₂ refl in
+      let e : later t a (map eventOf cs₂) (held (layout t) x₂) ≡ later t a (map eventOf cs₁) (held (layout t) x₂) =
+      ap (λ es. later t a es (held (layout t) x₂)) (sym same) in (
+        subst₂ R (sym (r₁ .1)) (sym (r₂ .1 ∙ e)) (b .1),
+        r₁ .0 ∙ ap (map seenEnding) (b .0 ∙ ap (λ es. endings t a es (held (layout t) x₂)) same) ∙ sym (r₂ .0),
+      )
 
 -- equal answers exactly if the values after them are equal
 abbrev Told : Result → Result → VariableNumber → Type 0
@@ -112,16 +169,8 @@ module _ (t : Table) (a : Place) (v : VariableNumber) (x₁ x₂ : Lent)
   abbrev y₂ : Lent
   y₂ = lentAfter t a cs₂ x₂
 
-  states : Alike v (held (layout t) y₁) (held (layout t) y₂) × (seenAll t a cs₁ x₁ ≡ seenAll t a cs₂ x₂)
-  states =
-      let r₁ = run-seen t a cs₁ x₁ (held (layout t) x₁) u₁ refl in
-      let r₂ = run-seen t a cs₂ x₂ (held (layout t) x₂) u₂ refl in
-      let b = before t a v (map eventOf cs₁) _ _ (alike-held t v x₁ x₂ u₁ u₂ h) quiet in
-      let e : later t a (map eventOf cs₂) (held (layout t) x₂) ≡ later t a (map eventOf cs₁) (held (layout t) x₂) =
-      ap (λ es. later t a es (held (layout t) x₂)) (sym same) in (
-        subst₂ (Alike v) (sym (r₁ .1)) (sym (r₂ .1 ∙ e)) (b .1),
-        r₁ .0 ∙ ap (map seenEnding) (b .0 ∙ ap (λ es. endings t a es (held (layout t) x₂)) same) ∙ sym (r₂ .0),
-      )
+  alike : Alike v (held (layout t) y₁) (held (layout t) y₂) × (seenAll t a cs₁ x₁ ≡ seenAll t a cs₂ x₂)
+  alike = states t a (Alike v) x₁ x₂ u₁ u₂ cs₁ cs₂ same (before t a v (map eventOf cs₁) _ _ (alike-held t v x₁ x₂ u₁ u₂ h) quiet)
 
   after-usable₁ : usable t (held (layout t) y₁) ≡ true
   after-usable₁ = rw (run-seen t a cs₁ x₁ (held (layout t) x₁) u₁ refl .1) (later-usable t a (map eventOf cs₁) _ u₁)
@@ -131,7 +180,7 @@ module _ (t : Table) (a : Place) (v : VariableNumber) (x₁ x₂ : Lent)
 
   -- until a call reads v, what is seen is equal, and the stores differ at most in v ..
   pub lent-before : (seenAll t a cs₁ x₁ ≡ seenAll t a cs₂ x₂) × LentAlike (layout t) v y₁ y₂
-  lent-before = (states .1, held-alike t v y₁ y₂ (states .0))
+  lent-before = (alike .1, held-alike t v y₁ y₂ (alike .0))
 
   -- .. and at the first call that does, the answers are equal exactly if the variable's bytes are, after it
   pub lent-apart : (c₁ c₂ : Call) → eventOf c₁ ≡ eventOf c₂ → v .0 < length (layout t .sizes) → reads t a v (eventOf c₁) (held (layout t) y₁) ≡ true
@@ -140,9 +189,17 @@ module _ (t : Table) (a : Place) (v : VariableNumber) (x₁ x₂ : Lent)
   lent-apart c₁ c₂ e k r =
       let w : Told (happen t a (eventOf c₁) (held (layout t) y₁)) (happen t a (eventOf c₂) (held (layout t) y₂)) v =
       subst (λ ev. Told (happen t a (eventOf c₁) (held (layout t) y₁)) (happen t a ev (held (layout t) y₂)) v) e
-      (step t a v (eventOf c₁) _ _ (states .0) .shows r) in
+      (step t a v (eventOf c₁) _ _ (alike .0) .shows r) in
       let b₁ = value-after t a v c₁ y₁ after-usable₁ k in
       let b₂ = value-after t a v c₂ y₂ after-usable₂ k in
       let a₁ = answer-in (happen t a (eventOf c₁) (held (layout t) y₁) .ending) (bufferOf c₁) in
       let a₂ = answer-in (happen t a (eventOf c₂) (held (layout t) y₂) .ending) (bufferOf c₂) in
       (λ q. b₁ ∙ w .0 (sym a₁ ∙ q ∙ a₂) ∙ sym b₂, λ q. a₁ ∙ w .1 (sym b₁ ∙ q ∙ b₂) ∙ sym a₂)
+
+-- and stale bytes likewise, for ever: whatever the calls are, but for a fresh board, all that is seen is equal, and the stores differ at most there
+pub lent-stale : (t : Table) (a : Place) (x₁ x₂ : Lent) → usable t (held (layout t) x₁) ≡ true → usable t (held (layout t) x₂) ≡ true
+    → LentAlikeButStale (layout t) x₁ x₂ → (cs₁ cs₂ : List Call) → map eventOf cs₁ ≡ map eventOf cs₂ → neverFresh (map eventOf cs₁) ≡ true
+    → (seenAll t a cs₁ x₁ ≡ seenAll t a cs₂ x₂) × LentAlikeButStale (layout t) (lentAfter t a cs₁ x₁) (lentAfter t a cs₂ x₂)
+lent-stale t a x₁ x₂ u₁ u₂ h cs₁ cs₂ same old =
+    let b = states t a AlikeButStale x₁ x₂ u₁ u₂ cs₁ cs₂ same (stale-apart t a (map eventOf cs₁) _ _ (stale-held t x₁ x₂ u₁ u₂ h) old) in
+    (b .1, held-stale t _ _ (b .0))

@@ -8,7 +8,9 @@ pub mod Usable
 pub mod Marks
 pub mod Examples
 pub mod Steps
+pub mod Hidden
 pub mod Apart
+pub mod Stale
 pub mod Accepted
 pub mod Reading
 pub mod Stays
@@ -22,3 +24,5 @@ pub mod Lent
 pub mod Input
 pub mod Edges
 pub mod Sums
+pub mod Lengths
+pub mod Fresh

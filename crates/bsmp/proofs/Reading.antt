@@ -27,7 +27,7 @@ use Rattle.bsmp.proofs.Accepted.{accepted}
 
 pub reads-same : (t : Table) (a : Place) (v : VariableNumber) (e : Event) (s₁ s₂ : State) → Alike v s₁ s₂ → reads t a v e s₁ ≡ reads t a v e s₂
 reads-same t a v (arrives busy room p) s₁ s₂ h =
-    ap₂ (λ fs gs. first fs (λ r. false) (first (placeTests a room) (λ r. false) (first (packetTests a p) (λ r. false) (isOwn a (destination p) && readsIn (layout t) gs busy (message p) v))))
+    ap₂ (λ fs gs. first fs (λ r. false) (first (placeTests a room) (λ r. false) (first (packetTests a p) (λ r. false) (isOwn a (destination p) && readsIn (tells v) (layout t) gs busy (message p)))))
     (faults-alike t v s₁ s₂ h) (h .groups)
 reads-same t a v (returns room f due r) s₁ s₂ h = refl
 reads-same t a v (stores i b) s₁ s₂ h = refl
@@ -92,7 +92,7 @@ module _ (l : Layout) (gs : List ℕ) (busy : ℕ) (v : VariableNumber) (p : Lis
   way-tells k (inr (inl w)) = rw (w .0) (w .1, ap (some (marked busy)) (append-nil (members l gs (groupAt p 0))) ∙ w .2, refl)
   way-tells k (inr (inr w)) = rw (w .0) (same-one v _ (w .1), ap₂ (λ x y. x || (y || false)) (ap (marked busy) (sym (w .1)) ∙ w .2) (w .3), refl)
 
-read-passed : (v : VariableNumber) (n : Line) (c : Check) → readBy v n c ≡ true → (c ≡ Pass) × (tells v (n .answer) ≡ true)
+read-passed : (v : VariableNumber) (n : Line) (c : Check) → readBy (tells v) n c ≡ true → (c ≡ Pass) × (tells v (n .answer) ≡ true)
 read-passed v n (Fail e) h = absurd (false≢true h)
 read-passed v n Pass h = (refl, h)
 

@@ -14,9 +14,9 @@ use Rattle.md5.proofs.Digest.{length-digest}
 use Rattle.bsmp.specs.Base.{some, every, sum, join, cut, within, byteAt, wordAt, upFrom}
 use Rattle.bsmp.specs.Codes.{commandOf}
 use Rattle.bsmp.specs.Board.{variable, curve, Table, Layout, layout, State, valueOf, blockOf, sizeOf, variables, isSame, groupBytes, setOf, blankCurve, curveOf, blockSizes, blockPlace}
-use Rattle.bsmp.specs.Board.{withValues, withBlocks, withSums, contentsOf, sumOf, curveSum, sumSizes, fitting, full, fresh, usable, usableGroups, faults}
+use Rattle.bsmp.specs.Board.{contentsOf, sumOf, curveSum, sumSizes, fitting, full, fresh, usable, usableGroups, faults}
 use Rattle.bsmp.specs.Message.{Change, nothing, edit, fill, renew, regroup, writesVariable, writesGroup, Line, testsOf, line, asked, changed, edited, filled, after, stateAfter, carried, handled}
-use Rattle.bsmp.specs.Packet.{Place, refuse, placeTests, packetTests, served, packet, resultTests, functionResult, storeTests, boardStore, freshBoard, message}
+use Rattle.bsmp.specs.Packet.{Place, Result, refuse, placeTests, packetTests, served, packet, resultTests, functionResult, storeTests, boardStore, freshBoard, message}
 use Rattle.bsmp.specs.Store.{held, lentOf}
 use Rattle.bsmp.specs.Apart.{Event, arrives, returns, stores, freshens, happen, later}
 use Rattle.bsmp.specs.declared.VariableNumber.{VariableNumber}
@@ -30,9 +30,9 @@ use Rattle.bsmp.specs.declared.Command.the-variants.{MaskVariable, MaskG
 use Rattle.bsmp.proofs.Bools.{or-false, and-true}
 use Rattle.bsmp.proofs.Accepted.{judge-case}
 use Rattle.bsmp.proofs.Lists.{map-set, map-map, every-last, length-upFrom}
-use Rattle.bsmp.proofs.Chain.{clear, clear-at, broken-at, first-case}
+use Rattle.bsmp.proofs.Chain.{clear, clear-at, broken-at, first-case, first-clear}
 use Rattle.bsmp.proofs.Store.{cut-join, lengths-cut, sum-size}
-use Rattle.bsmp.proofs.Usable.{Usable, usable-parts, usable-whole, usable-by, usable-regrouped, clear-usable}
+use Rattle.bsmp.proofs.Usable.{Usable, usable-parts, usable-whole, usable-by, usable-regrouped, clear-usable, usable-clear}
 use Rattle.bsmp.proofs.Marks.{marks-below, marks-some, at-number}
 
 -- what a change must be to leave a usable board -----------------------------------------------------------------------------
@@ -45,6 +45,9 @@ Fits t s (regroup gs) = usableGroups (length (t .variables)) gs ≡ true
 
 pub value-length : (t : Table) (s : State) → Usable t s → (i : VariableNumber) → length (valueOf s i) ≡ sizeOf (layout t) i
 value-length t s u i = sym (List·getD-map length (s .values) (i .0) []) ∙ ap (λ l. getD l (i .0) 0) (u .values)
+
+pub block-bytes : (t : Table) (s : State) → Usable t s → (k : ℕ) → length (blockOf s k) ≡ getD (blockSizes (t .curves)) k 0
+block-bytes t s u k = sym (List·getD-map length (s .blocks) k []) ∙ ap (λ ns. getD ns k 0) (u .blocks)
 
 pub changed-length : (op : Operation) (x p : List ℕ) → length p ≡ length x → length (changed op x p) ≡ length x
 unfolding changed
@@ -93,6 +96,10 @@ fresh-usable t s h =
     (each-sixteen (λ c. curveSum (layout t) (full (layout t) s) (curve c)) 0 (t .curves) (λ c. length-digest _) ∙ sym (usable-parts t _ h .sums)) refl
     ∙ h
 
+pub fresh-state : (t : Table) (s : State) → usable t (full (layout t) s) ≡ true → freshBoard t s .state ≡ fresh (layout t) s
+unfolding freshBoard
+fresh-state t s h = ap (λ (x : Result). x .state) (first-clear (faults t _) (refuse s) _ (usable-clear t _ h))
+
 pub after-usable : (t : Table) (s : State) (ch : Change) → usable t s ≡ true → Fits t s ch → usable t (after ch s) ≡ true
 unfolding after
 after-usable t s nothing h k = h
@@ -100,7 +107,7 @@ after-usable t s (edit op is ps) h k = usable-by t _ s (edited-lengths (layout t
 after-usable t s (fill i d) h k =
     let u : Usable t s = usable-parts t s h in
     let one : length (filled d (blockOf s i)) ≡ length (blockOf s i) = simp (length-append, length-drop) (omega (arith, k .1)) in
-    let size : length (blockOf s i) ≡ getD (blockSizes (t .curves)) i 0 = sym (List·getD-map length (s .blocks) i []) ∙ ap (λ ns. getD ns i 0) (u .blocks) in
+    let size : length (blockOf s i) ≡ getD (blockSizes (t .curves)) i 0 = block-bytes t s u i in
     usable-whole t _ record {
       variables = u .variables;
       values = u .values;
@@ -133,9 +140,7 @@ block-size (x ∷ cs) (suc c) k h l =
 
 pub block-length : (t : Table) (s : State) → Usable t s → (c : CurveNumber) (k : ℕ) → c .0 < length (t .curves) → k < curveOf (layout t) c .blocks
     → length (blockOf s (blockPlace (layout t) c k)) ≡ curveOf (layout t) c .size
-block-length t s u c k a b =
-    sym (List·getD-map length (s .blocks) (blockPlace (layout t) c k) []) ∙ ap (λ x. getD x (blockPlace (layout t) c k) 0) (u .blocks)
-    ∙ block-size (t .curves) (c .0) k a b
+block-length t s u c k a b = block-bytes t s u (blockPlace (layout t) c k) ∙ block-size (t .curves) (c .0) k a b
 
 pub sum-length : (t : Table) (s : State) → Usable t s → (c : CurveNumber) → c .0 < length (t .curves) → length (sumOf s c) ≡ 16
 sum-length t s u c h =

@@ -3,7 +3,7 @@
 use mathlib.Core.Path.{_≡_, refl, sym, ap, _∙_}
 use mathlib.Core.Logic.{_↔_, _≢_, _⊎_, inl, inr}
 use mathlib.Core.Bool.{Bool, true, false}
-use mathlib.Core.List.{List, [], _∷_}
+use mathlib.Core.List.{List, [], _∷_, map}
 use Prim.Native.Nat.{ℕ, _<_}
 use native.Mathlib.Nat.{zero-add}
 use native.Mathlib.Omega.{arith}
@@ -14,18 +14,19 @@ use Rattle.bsmp.specs.Base.{some, byteAt, Test}
 use Rattle.bsmp.specs.Codes.{commandOf}
 use Rattle.bsmp.specs.Board.{curve, Table, Layout, layout, State, sumOf, curveSum, full, fresh, marked, usable}
 use Rattle.bsmp.specs.Message.{line, curveAt, namesCurve, touched, formTests, replies, after, spoken, said, stateAfter, carried, handled, asked, judge}
-use Rattle.bsmp.specs.Packet.{Ending, reply, silence, packet, Result, freshBoard, refuse}
+use Rattle.bsmp.specs.Packet.{Ending, reply, silence, freshBoard}
+use Rattle.bsmp.specs.Apart.{Event, arrives, endings}
 use Rattle.bsmp.specs.Examples.{hex, tableA, placeA, stateA}
 use Rattle.bsmp.specs.declared.CurveNumber.{CurveNumber}
-use Rattle.bsmp.specs.declared.Command.{Command}
-use Rattle.bsmp.specs.declared.Command.the-variants.{Version, ListVariables, ListGroups, ShowGroup, ListCurves, ReadSum, ListFunctions, ReadVariable, ReadGroup, WriteVariable, WriteGroup}
-use Rattle.bsmp.specs.declared.Command.the-variants.{MaskVariable, MaskGroup, WriteRead, MakeGroup, RemoveGroups, ReadBlock, WriteBlock, RenewSum, RunFunction, Unknown}
+use Rattle.bsmp.specs.declared.Command.the-variants.{ReadSum, RenewSum}
 use Rattle.bsmp.specs.declared.WireError.{WireError}
 use Rattle.bsmp.specs.declared.Check.the-variants.{Pass}
 use Rattle.bsmp.proofs.Computes.{computes}
-use Rattle.bsmp.proofs.Chain.{clear, clear-at, first-clear}
-use Rattle.bsmp.proofs.Usable.{usable-parts, usable-clear}
-use Rattle.bsmp.proofs.Accepted.{accepted, judge-case}
+use Rattle.bsmp.proofs.Chain.{clear, clear-at}
+use Rattle.bsmp.proofs.Usable.{usable-parts}
+use Rattle.bsmp.proofs.Accepted.{accepted}
+use Rattle.bsmp.proofs.Stays.{fresh-state}
+use Rattle.bsmp.proofs.Keeps.{curves-kept}
 use Rattle.bsmp.proofs.Marks.{at-number}
 
 -- the sum of a curve is that of what the curve holds
@@ -35,48 +36,14 @@ Current l s c = sumOf s c ≡ curveSum l s c
 -- "a fresh board works it out"
 pub fresh-current : (t : Table) (s : State) (c : CurveNumber) → usable t (full (layout t) s) ≡ true → c .0 < length (t .curves)
     → Current (layout t) (freshBoard t s .state) c
-unfolding freshBoard fresh
+unfolding fresh
 fresh-current t s c u h =
     let f : ℕ → List ℕ = λ k. curveSum (layout t) (full (layout t) s) (curve k) in
-    ap (λ (x : Result). sumOf (x .state) c) (first-clear _ (refuse s) _ (usable-clear t _ u))
-    ∙ at-number f 0 (length (t .curves)) (c .0) [] h
-    ∙ ap f (zero-add (c .0))
-    ∙ sym (ap (λ (x : Result). curveSum (layout t) (x .state) c) (first-clear _ (refuse s) _ (usable-clear t _ u)))
+    rw (fresh-state t s u) (at-number f 0 (length (t .curves)) (c .0) [] h ∙ ap f (zero-add (c .0)))
 
--- "42 renews it", and no other message any
-module _ (l : Layout) (gs : List ℕ) (p : List ℕ) (s : State) where
-  line-sums : (k : Command) → k ≢ RenewSum → after (line l gs p k .change) s .sums ≡ s .sums
-  unfolding line after
-  line-sums = elim [
-    | Version ↦ λ n. refl
-    | ListVariables ↦ λ n. refl
-    | ListGroups ↦ λ n. refl
-    | ShowGroup ↦ λ n. refl
-    | ListCurves ↦ λ n. refl
-    | ReadSum ↦ λ n. refl
-    | ListFunctions ↦ λ n. refl
-    | ReadVariable ↦ λ n. refl
-    | ReadGroup ↦ λ n. refl
-    | WriteVariable ↦ λ n. refl
-    | WriteGroup ↦ λ n. refl
-    | MaskVariable ↦ λ n. refl
-    | MaskGroup ↦ λ n. refl
-    | WriteRead ↦ λ n. refl
-    | MakeGroup ↦ λ n. refl
-    | RemoveGroups ↦ λ n. refl
-    | ReadBlock ↦ λ n. refl
-    | WriteBlock ↦ λ n. refl
-    | RenewSum ↦ λ n. absurd (n refl)
-    | RunFunction ↦ λ n. refl
-    | Unknown ↦ λ n. refl
-  ]
-
--- "a block write leaves it stale": as it was, byte by byte
+-- "42 renews it", and no other message any; so "a block write leaves it stale": as it was, byte by byte
 pub stale : (l : Layout) (busy : ℕ) (m : List ℕ) (s : State) → commandOf (byteAt m 0) ≢ RenewSum → handled l busy m s .state .sums ≡ s .sums
-unfolding handled carried stateAfter
-stale l busy m s n =
-    judge-case l (s .groups) busy m (λ v. stateAfter (asked l (s .groups) m) v s .sums ≡ s .sums) (λ e. refl)
-    (λ f c. line-sums l (s .groups) (drop 3 m) s (commandOf (byteAt m 0)) n)
+stale l busy m s n = curves-kept l busy m s .sums n
 
 -- "E5 then E3 for both", and nothing else stops them: no type of a curve, no busy mark
 pub only-two : (l : Layout) (gs : List ℕ) (busy : ℕ) (m : List ℕ) → (commandOf (byteAt m 0) ≡ ReadSum) ⊎ (commandOf (byteAt m 0) ≡ RenewSum)
@@ -136,16 +103,15 @@ module _ (t : Table) (busy : ℕ) (m : List ℕ) (s : State) (u : usable t s ≡
       told-sum (layout t) busy′ q _ e w
       ∙ ap (replies 0x0B) (ap (sumOf (handled (layout t) busy m s .state)) f ∙ renewed ∙ ap (λ x. curveSum (layout t) x named) renewed-state)
 
--- computed on board A, one packet after another: the sum of a fresh board, block 1 written, the sum as it was, 42, the sum of what the curve
+-- computed on board A, one packet after another, nothing busy: the sum of a fresh board, block 1 written, the sum as it was, 42, the sum of what the curve
 -- holds now; 42 by multicast after one more write; then E5 before E3, and E3
-abbrev after-packet : List ℕ → State → Result
-after-packet p s = packet tableA placeA 0 4104 p s
+abbrev pub sent : List ℕ → Event
+sent p = arrives 0 4104 p
 
-abbrev answers : List (List ℕ) → State → List Ending
-answers [] s = []
-answers (p ∷ ps) s = after-packet p s .ending ∷ answers ps (after-packet p s .state)
+abbrev pub answers : List (List ℕ) → State → List Ending
+answers ps s = endings tableA placeA (map sent ps) s
 
-abbrev ok : Ending
+abbrev pub ok : Ending
 ok = reply (hex 5 0x00_E0_00_00_20)
 
 abbrev zero-sum : Ending

@@ -56,11 +56,16 @@ module _ (t : Table) (s : State) where
     unfolding faults
     faults-some h e = first-stop _ _ _ _ _ _ _ (ap not h) e
 
--- usability goes by lengths and groups alone
+-- usability goes by lengths and groups alone, and by a block's length only as it fits
+pub usable-fit : (t : Table) (s s′ : State) → map length (s .values) ≡ map length (s′ .values) → map length (s .blocks) ≡ map length (s′ .blocks)
+    → fitting (blockSizes (t .curves)) (s .lengths) ≡ fitting (blockSizes (t .curves)) (s′ .lengths) → map length (s .sums) ≡ map length (s′ .sums)
+    → s .groups ≡ s′ .groups → usable t s ≡ usable t s′
+unfolding usable wholeValues wholeCurves fitLengths wholeSums
+usable-fit t s s′ a b c d e = rw (a, b, c, d, e)
+
 pub usable-by : (t : Table) (s s′ : State) → map length (s .values) ≡ map length (s′ .values) → map length (s .blocks) ≡ map length (s′ .blocks)
     → s .lengths ≡ s′ .lengths → map length (s .sums) ≡ map length (s′ .sums) → s .groups ≡ s′ .groups → usable t s ≡ usable t s′
-unfolding usable wholeValues wholeCurves fitLengths wholeSums
-usable-by t s s′ a b c d e = rw (a, b, c, d, e)
+usable-by t s s′ a b c d e = usable-fit t s s′ a b (ap (fitting (blockSizes (t .curves))) c) d e
 
 pub faults-by : (t : Table) (s s′ : State) → usable t s ≡ usable t s′ → faults t s ≡ faults t s′
 unfolding faults

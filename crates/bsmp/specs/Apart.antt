@@ -1,16 +1,16 @@
--- Demand 3: what is said of two boards that differ in one variable's bytes, over the definition and over what is lent.
--- Assumes nothing.
+-- Demand 3: what is said of two boards that differ in one variable's bytes, over the definition and over what is lent; and in the same words
+-- of two that differ in bytes past the blocks' lengths (02, 2026-03). Assumes nothing.
 use mathlib.Core.Path.{_≡_}
 use mathlib.Core.Logic.{_↔_, _≢_}
 use mathlib.Core.Bool.{Bool, true, false, not, _&&_}
 use mathlib.Core.List.{List, [], _∷_, map}
 use Prim.Native.Nat.{ℕ, _<_}
 use lib.ListN.{length, take}
-use Rattle.bsmp.specs.Base.{some, first}
-use Rattle.bsmp.specs.Board.{Table, Layout, layout, State, valueOf, isSame, faults}
+use Rattle.bsmp.specs.Base.{some, every, first}
+use Rattle.bsmp.specs.Board.{Table, Layout, layout, State, valueOf, blockSizes, contentOf, isSame, faults}
 use Rattle.bsmp.specs.Message.{Answer, Line, told, asked, judge}
 use Rattle.bsmp.specs.Packet.{Place, Ending, reply, silence, run, Result, isOwn, destination, message, placeTests, packetTests, packet, Ran, functionResult, boardStore, freshBoard}
-use Rattle.bsmp.specs.Store.{Lent, held, lentOf, bytesIn, Left, leaves}
+use Rattle.bsmp.specs.Store.{Lent, held, lentOf, bytesIn, contentIn, Left, leaves}
 use Rattle.bsmp.specs.declared.VariableNumber.{VariableNumber}
 use Rattle.bsmp.specs.declared.FunctionNumber.{FunctionNumber}
 use Rattle.bsmp.specs.declared.Check.{Check}
@@ -23,6 +23,15 @@ pub record Alike (v : VariableNumber) (s₁ s₂ : State) : Type 0 where
   pub others : (i : VariableNumber) → i ≢ v → valueOf s₁ i ≡ valueOf s₂ i
   pub sizes : map length (s₁ .values) ≡ map length (s₂ .values)
   pub blocks : s₁ .blocks ≡ s₂ .blocks
+  pub lengths : s₁ .lengths ≡ s₂ .lengths
+  pub sums : s₁ .sums ≡ s₂ .sums
+  pub groups : s₁ .groups ≡ s₂ .groups
+
+-- the states differ at most in bytes past the blocks' lengths: 02, 2026-03's "and the fourth is stale"
+pub record AlikeButStale (s₁ s₂ : State) : Type 0 where
+  pub values : s₁ .values ≡ s₂ .values
+  pub contents : (k : ℕ) → contentOf s₁ k ≡ contentOf s₂ k
+  pub sizes : map length (s₁ .blocks) ≡ map length (s₂ .blocks)
   pub lengths : s₁ .lengths ≡ s₂ .lengths
   pub sums : s₁ .sums ≡ s₂ .sums
   pub groups : s₁ .groups ≡ s₂ .groups
@@ -45,22 +54,27 @@ happen t a freshens s = freshBoard t s
 abbrev pub tells : VariableNumber → Answer → Bool
 tells v a = some (isSame v) (told a)
 
-abbrev pub readBy : VariableNumber → Line → Check → Bool
-readBy v l (Fail e) = false
-readBy v l Pass = tells v (l .answer)
+-- the same of whatever answers tell: an answered, accepted packet whose answer does
+module _ (tell : Answer → Bool) where
+  abbrev pub readBy : Line → Check → Bool
+  readBy l (Fail e) = false
+  readBy l Pass = tell (l .answer)
 
-abbrev pub readsIn : Layout → (groups : List ℕ) → (busy : ℕ) → (message : List ℕ) → VariableNumber → Bool
-readsIn l gs busy m v = readBy v (asked l gs m) (judge l gs busy m)
+  abbrev pub readsIn : Layout → (groups : List ℕ) → (busy : ℕ) → (message : List ℕ) → Bool
+  readsIn l gs busy m = readBy (asked l gs m) (judge l gs busy m)
+
+  abbrev pub readsBy : Table → Place → Event → State → Bool
+  readsBy t a (arrives busy room p) s =
+      first (faults t s) (λ r. false)
+      (first (placeTests a room) (λ r. false)
+      (first (packetTests a p) (λ r. false)
+      (isOwn a (destination p) && readsIn (layout t) (s .groups) busy (message p))))
+  readsBy t a (returns room f due r) s = false
+  readsBy t a (stores i b) s = false
+  readsBy t a freshens s = false
 
 abbrev pub reads : Table → Place → VariableNumber → Event → State → Bool
-reads t a v (arrives busy room p) s =
-    first (faults t s) (λ r. false)
-    (first (placeTests a room) (λ r. false)
-    (first (packetTests a p) (λ r. false)
-    (isOwn a (destination p) && readsIn (layout t) (s .groups) busy (message p) v)))
-reads t a v (returns room f due r) s = false
-reads t a v (stores i b) s = false
-reads t a v freshens s = false
+reads t a v e s = readsBy (tells v) t a e s
 
 -- the answer's bytes
 abbrev pub answerOf : Ending → List ℕ
@@ -69,13 +83,13 @@ answerOf silence = []
 answerOf (run f i due) = []
 answerOf (Ending.refused n) = []
 
--- demand 3 for one event, of which rd says whether it reads v
-pub record Apart (v : VariableNumber) (r₁ r₂ : Result) (rd : Bool) : Type 0 where
-  pub alike : Alike v (r₁ .state) (r₂ .state)
+-- demand 3 for one event, of which rd says whether it reads v: for R is Alike v, for Same that v's bytes are equal
+pub record Apart (R Same : State → State → Type 0) (r₁ r₂ : Result) (rd : Bool) : Type 0 where
+  pub alike : R (r₁ .state) (r₂ .state)
   pub same : rd ≡ false → r₁ .ending ≡ r₂ .ending
-  pub shows : rd ≡ true → (answerOf (r₁ .ending) ≡ answerOf (r₂ .ending)) ↔ (valueOf (r₁ .state) v ≡ valueOf (r₂ .state) v)
+  pub shows : rd ≡ true → (answerOf (r₁ .ending) ≡ answerOf (r₂ .ending)) ↔ Same (r₁ .state) (r₂ .state)
 
--- a run of events: how each ends, the state after all, and that none of them reads v
+-- a run of events: how each ends, the state after all, that none of them reads v, and that none of them is a fresh board
 abbrev pub endings : Table → Place → List Event → State → List Ending
 endings t a [] s = []
 endings t a (e ∷ es) s = happen t a e s .ending ∷ endings t a es (happen t a e s .state)
@@ -84,9 +98,21 @@ abbrev pub later : Table → Place → List Event → State → State
 later t a [] s = s
 later t a (e ∷ es) s = later t a es (happen t a e s .state)
 
+abbrev pub unreadBy : (Answer → Bool) → Table → Place → List Event → State → Bool
+unreadBy tell t a [] s = true
+unreadBy tell t a (e ∷ es) s = not (readsBy tell t a e s) && unreadBy tell t a es (happen t a e s .state)
+
 abbrev pub unread : Table → Place → VariableNumber → List Event → State → Bool
-unread t a v [] s = true
-unread t a v (e ∷ es) s = not (reads t a v e s) && unread t a v es (happen t a e s .state)
+unread t a v es s = unreadBy (tells v) t a es s
+
+abbrev pub isFresh : Event → Bool
+isFresh (arrives busy room p) = false
+isFresh (returns room f due r) = false
+isFresh (stores i b) = false
+isFresh freshens = true
+
+abbrev pub neverFresh : List Event → Bool
+neverFresh es = every (λ e. not (isFresh e)) es
 
 -- the same as an entry sees it: flat stores, and the bytes of a reply buffer ----------------------------------------------
 pub data Call : Type 0 where
@@ -139,6 +165,15 @@ pub record LentAlike (l : Layout) (v : VariableNumber) (x₁ x₂ : Lent) : Type
   pub others : (i : VariableNumber) → i .0 < length (l .sizes) → i ≢ v → bytesIn l (x₁ .values) i ≡ bytesIn l (x₂ .values) i
   pub size : length (x₁ .values) ≡ length (x₂ .values)
   pub blocks : x₁ .blocks ≡ x₂ .blocks
+  pub lengths : x₁ .lengths ≡ x₂ .lengths
+  pub sums : x₁ .sums ≡ x₂ .sums
+  pub groups : x₁ .groups ≡ x₂ .groups
+
+-- alike but for bytes past the blocks' lengths
+pub record LentAlikeButStale (l : Layout) (x₁ x₂ : Lent) : Type 0 where
+  pub values : x₁ .values ≡ x₂ .values
+  pub contents : (k : ℕ) → k < length (blockSizes (l .curves)) → contentIn l x₁ k ≡ contentIn l x₂ k
+  pub size : length (x₁ .blocks) ≡ length (x₂ .blocks)
   pub lengths : x₁ .lengths ≡ x₂ .lengths
   pub sums : x₁ .sums ≡ x₂ .sums
   pub groups : x₁ .groups ≡ x₂ .groups

@@ -1,7 +1,7 @@
 -- What a board lends to a call, flat, and what the call leaves there. Assumes nothing.
 use mathlib.Core.List.{List, _++_}
 use Prim.Native.Nat.{ℕ}
-use lib.ListN.{length, take, drop}
+use lib.ListN.{length, take, drop, getD}
 use Rattle.bsmp.specs.Base.{sum, cut, join}
 use Rattle.bsmp.specs.Board.{Layout, State, sizeOf, blockSizes, sumSizes}
 use Rattle.bsmp.specs.Packet.{Ending, reply, silence, run, Result}
@@ -38,6 +38,13 @@ start ns i = sum (take i ns)
 
 abbrev pub bytesIn : Layout → List ℕ → VariableNumber → List ℕ
 bytesIn l store i = take (sizeOf l i) (drop (start (l .sizes) (i .0)) store)
+
+-- a block's bytes in the store, and of these what the block holds
+abbrev pub blockIn : Layout → List ℕ → ℕ → List ℕ
+blockIn l store k = take (getD (blockSizes (l .curves)) k 0) (drop (start (blockSizes (l .curves)) k) store)
+
+abbrev pub contentIn : Layout → Lent → ℕ → List ℕ
+contentIn l x k = take (getD (x .lengths) k 0) (blockIn l (x .blocks) k)
 
 -- how the code says an ending: a reply's bytes stand in the buffer, a function's input at place 5 of the packet
 abbrev pub outcomeOf : Ending → Outcome
