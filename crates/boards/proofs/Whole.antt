@@ -9,16 +9,18 @@ use lib.ListN.{length}
 use lib.Dec.{eqb}
 use borrow.Author.Tests.{not-true, not-false, eq-eqb, ne-eqb, eqb-true}
 use Rattle.bsmp.specs.Base.{sum}
-use Rattle.bsmp.specs.Board.{Table, layout, sizesOf, blockSizes, sumSizes, usableVariables, usableCurves, usableFunctions, usableGroups, usable}
+use Rattle.bsmp.specs.Board.{Table, layout, sizesOf, blockSizes, fitting, sumSizes, usableVariables, usableCurves, usableFunctions, usableGroups, usable}
 use Rattle.bsmp.specs.Store.{Lent, held}
 use Rattle.bsmp.proofs.Bools.{and-true, not-so, bool-eq}
 use Rattle.bsmp.proofs.Store.{curve-bytes, sum-bytes}
-use Rattle.rules.proofs.Totals.{total-usable, total-bytes}
+use Rattle.bsmp.proofs.Fresh.{curves-fit}
+use Rattle.rules.proofs.Totals.{total-usable, total-bytes, curves-usable, curves-told}
 use Rattle.records.specs.declared.Records.{Records}
 use Rattle.records.specs.declared.Groups.{Groups}
 use Rattle.rules.specs.declared.Total.{Total}
+use Rattle.rules.specs.declared.CurveTotal.{CurveTotal}
 use Rattle.records.specs.Lending.{recordsOf, curvesOf, functionsOf, groupsOf, tableOf, lent}
-use Rattle.rules.specs.Totals.{variablesTotal, curvesTotal}
+use Rattle.rules.specs.Totals.{variablesTotal, curveTotalOf, curvesTotal}
 use Rattle.records.proofs.Lending.{record-count, curve-count}
 use Rattle.rules.proofs.Thirds.{cut-off}
 use Rattle.records.proofs.Sound.{Sound, usable-sound, sound-usable}
@@ -54,12 +56,12 @@ module _ (cs ds : List ℕ) where
       by (no k) = absurd (false≢true (sym (cut-off cs k) ∙ u))
 
 -- what is lent is unusable where one of its parts is, and usable where all are
-module _ (r : Records) (cs fs vs bs ds : List ℕ) (g : Groups) where
+module _ (r : Records) (cs fs vs bs ns ds : List ℕ) (g : Groups) where
   abbrev table : Table
   table = tableOf r cs fs
 
   abbrev lending : Lent
-  lending = lent vs bs ds (groupsOf g)
+  lending = lent vs bs ns ds (groupsOf g)
 
   abbrev whole : Bool
   whole = usable table (held (layout table) lending)
@@ -76,13 +78,16 @@ module _ (r : Records) (cs fs vs bs ds : List ℕ) (g : Groups) where
   pub board-values : (c : Total) → c ≡ variablesTotal (recordsOf r) → not (c .usable) ≡ false → (c .bytes ≡ length vs → ⊥) → false ≡ whole
   board-values c e h n = refused (λ s. n (total-bytes _ _ c e (not-false _ h) ∙ sym (s .values)))
 
-  pub board-curves : (d : Total) → d ≡ curvesTotal (curvesOf cs) → not (d .usable) ≡ true → false ≡ whole
-  board-curves d e h = refused (λ s. unless _ _ (total-usable _ _ d e) h (s .curves))
+  pub board-curves : (d : CurveTotal) → d ≡ curvesTotal (curvesOf cs) → not (d .usable) ≡ true → false ≡ whole
+  board-curves d e h = refused (λ s. unless _ _ (curves-usable _ _ d e) h (s .curves))
 
-  curve-total : (d : Total) → d ≡ curvesTotal (curvesOf cs) → not (d .usable) ≡ false → d .bytes ≡ sum (blockSizes (curvesOf cs))
-  curve-total d e h = total-bytes _ _ d e (not-false _ h) ∙ sym (curve-bytes (curvesOf cs))
+  curve-total : (d : CurveTotal) → d ≡ curvesTotal (curvesOf cs) → not (d .usable) ≡ false → d .bytes ≡ sum (blockSizes (curvesOf cs))
+  curve-total d e h = ap (λ (y : CurveTotal). y .bytes) (curves-told _ _ d e (not-false _ h)) ∙ sym (curve-bytes (curvesOf cs))
 
-  pub board-blocks : (d : Total) → d ≡ curvesTotal (curvesOf cs) → not (d .usable) ≡ false → (d .bytes ≡ length bs → ⊥) → false ≡ whole
+  pub board-lengths : (b : Bool) → b ≡ fitting (blockSizes (curvesOf cs)) ns → not b ≡ true → false ≡ whole
+  board-lengths b e h = refused (λ s. unless b _ e h (s .lengths))
+
+  pub board-blocks : (d : CurveTotal) → d ≡ curvesTotal (curvesOf cs) → not (d .usable) ≡ false → (d .bytes ≡ length bs → ⊥) → false ≡ whole
   board-blocks d e h n = refused (λ s. n (curve-total d e h ∙ sym (s .blocks)))
 
   pub board-sums : (b : Bool) → b ≡ eqb (3 * length ds) (16 * length cs) → not b ≡ true → false ≡ whole
@@ -103,29 +108,37 @@ module _ (r : Records) (cs fs vs bs ds : List ℕ) (g : Groups) where
   last true so never = sym (sound-usable table lending (so refl))
   last false so never = refused (never refl)
 
-  module _ (d : Total) (a b m : Bool) (ed : d ≡ curvesTotal (curvesOf cs)) (hd : not (d .usable) ≡ false) (vd : d .bytes ≡ length bs)
+  module _ (d : CurveTotal) (a b m : Bool) (ed : d ≡ curvesTotal (curvesOf cs)) (hd : not (d .usable) ≡ false) (vd : d .bytes ≡ length bs)
       (em : m ≡ eqb (3 * length ds) (16 * length cs)) (hm : not m ≡ false)
       (ea : a ≡ usableFunctions (functionsOf fs)) (eb : b ≡ usableGroups (r .count) (groupsOf g)) where
-    sound : usableVariables (recordsOf r) ≡ true → length vs ≡ sum (sizesOf (recordsOf r)) → a ≡ true → b ≡ true → Sound table lending
-    sound hv vv ha hb = record {
+    sound : fitting (blockSizes (curvesOf cs)) ns ≡ true → usableVariables (recordsOf r) ≡ true → length vs ≡ sum (sizesOf (recordsOf r)) → a ≡ true → b ≡ true → Sound table lending
+    sound hl hv vv ha hb = record {
       variables = hv;
       values = vv;
-      curves = sym (total-usable _ _ d ed) ∙ not-false _ hd;
+      curves = sym (curves-usable _ _ d ed) ∙ not-false _ hd;
       blocks = sym vd ∙ curve-total d ed hd;
+      lengths = hl;
       sums = sums-exact cs ds (eqb-true (3 * length ds) (16 * length cs) (sym em ∙ not-false m hm));
       functions = sym ea ∙ ha;
       groups = sym (counted b eb) ∙ hb;
     }
 
-    pub board-walked : (c : Total) → c ≡ variablesTotal (recordsOf r) → not (c .usable) ≡ false → c .bytes ≡ length vs → not a ≡ false → b ≡ whole
-    board-walked c ec hc vc ha =
+    -- of a board with its blocks full all comes to what its curves add up to
+    pub board-walked : (c : Total) → c ≡ variablesTotal (recordsOf r) → not (c .usable) ≡ false → c .bytes ≡ length vs → not a ≡ false → not b ≡ false
+        → ns ≡ blockSizes (curvesOf cs) → d ≡ curveTotalOf whole (curvesOf cs)
+    board-walked c ec hc vc ha hb f =
         let u = not-false _ hc in
-        last b (sound (sym (total-usable _ _ c ec) ∙ u) (sym vc ∙ total-bytes _ _ c ec u) (not-false a ha)) (λ h s. false≢true (sym h ∙ counted b eb ∙ s .groups))
+        let w : usableCurves (curvesOf cs) ≡ true = sym (curves-usable _ _ d ed) ∙ not-false _ hd in
+        let l : fitting (blockSizes (curvesOf cs)) ns ≡ true = rw f (curves-fit (curvesOf cs) w) in
+        let o : whole ≡ true = sound-usable table lending (sound l (sym (total-usable _ _ c ec) ∙ u) (sym vc ∙ total-bytes _ _ c ec u) (not-false a ha) (not-false b hb)) in
+        ed ∙ ap (λ v. curveTotalOf v (curvesOf cs)) (w ∙ sym o)
 
-    pub board-quick : (c : Bool) → c ≡ (usableVariables (recordsOf r) && eqb (sum (sizesOf (recordsOf r))) (length vs)) → not c ≡ false → not b ≡ false → a ≡ whole
-    board-quick c ec hc hb =
+    -- and of any with lengths that were tested to the last of the tests
+    pub board-quick : (c k : Bool) → c ≡ (usableVariables (recordsOf r) && eqb (sum (sizesOf (recordsOf r))) (length vs)) → not c ≡ false
+        → k ≡ fitting (blockSizes (curvesOf cs)) ns → not k ≡ false → not b ≡ false → a ≡ whole
+    board-quick c k ec hc ek hk hb =
         let w = and-true (usableVariables (recordsOf r)) _ (sym ec ∙ not-false c hc) in
-        last a (λ h. sound (w .0) (sym (eqb-true _ _ (w .1))) h (not-false b hb)) (λ h s. false≢true (sym h ∙ ea ∙ s .functions))
+        last a (λ h. sound (sym ek ∙ not-false k hk) (w .0) (sym (eqb-true _ _ (w .1))) h (not-false b hb)) (λ h s. false≢true (sym h ∙ ea ∙ s .functions))
 
   pub board-own : (c : Bool) → c ≡ (usableVariables (recordsOf r) && eqb (sum (sizesOf (recordsOf r))) (length vs)) → not c ≡ true → false ≡ whole
   board-own c e h = refused (λ s. unless c _ e h (rw (s .variables, s .values) (eq-eqb (sum (sizesOf (recordsOf r))) (sum (sizesOf (recordsOf r))) refl)))

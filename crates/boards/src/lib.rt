@@ -9,8 +9,9 @@ ghost use lib.Dec.{eqb};
 ghost use lib.ListN.{length};
 ghost use Rattle.bsmp.specs.Base.{sum};
 ghost use Rattle.bsmp.specs.Store.{held};
-ghost use Rattle.bsmp.specs.Board.{sizesOf, usableVariables, blockSizes, usableCurves, fitting, layout, full, usable};
-ghost use Rattle.records.specs.Lending.{recordsBy, recordsOf, curvesOf, groupsBy, groupsOf, tableOf, lent};
+ghost use Rattle.bsmp.specs.Board.{sizesOf, usableVariables, blockSizes, usableCurves, fitting, layout, usable};
+ghost use Rattle.records.specs.Lending.{recordsBy, recordsOf, curvesOf, curveBlocks, groupsBy, groupsOf, tableOf, lent};
+ghost use Rattle.rules.specs.Totals.{curveTotalOf, curvesTotal};
 ghost use Rattle.boards.specs.Pieces.{usableFrom};
 
 // Whether the 16 records from `from` on break no rule.
@@ -149,7 +150,7 @@ pub fn fitting_lengths(curves: &[u32], total: CurveTotal, lengths: &[u16]) -> bo
     fitting_curves(curves, lengths)
 }
 
-// Every rule but that of the lengths, one after another, with what the curves add up to.
+// Every rule, one after another, of the board with its blocks full; with what the curves add up to.
 pub fn whole_board(
     count: usize,
     writable: &[u8; 64],
@@ -166,8 +167,8 @@ pub fn whole_board(
     ensures { λ r. let records = recordsBy count (now (writable .entry)) (now (sizes .entry)) (now (kinds .entry)) in
         let t = tableOf records (now (curves .entry)) (now (functions .entry)) in
         let groups = groupsOf (groupsBy made (now (sets .entry))) in
-        let x = lent (now (values .entry)) (now (blocks .entry)) [] (now (sums .entry)) groups in
-        ⌜ r ≡ wholeTotal t (held (layout t) x) ⌝ }
+        let full = lent (now (values .entry)) (now (blocks .entry)) (blockSizes (t .curves)) (now (sums .entry)) groups in
+        ⌜ r ≡ curveTotalOf (usable t (held (layout t) full)) (t .curves) ⌝ }
 {
     if !each_summed(curves, sums) {
         return CurveTotal::REFUSED;

@@ -19,18 +19,18 @@ use Rattle.bsmp.proofs.Stays.{fresh-state, fresh-usable}
 use Rattle.bsmp.proofs.Lengths.{fitting-count}
 
 -- full lengths are as many as there were, and the sizes, where those are as many
-full-count : (ms ns : List ℕ) → length (fullLengths ms ns) ≡ length ns
+pub full-count : (ms ns : List ℕ) → length (fullLengths ms ns) ≡ length ns
 full-count [] ns = refl
 full-count (m ∷ ms) [] = refl
 full-count (m ∷ ms) (n ∷ ns) = ap suc (full-count ms ns)
 
-full-sizes : (ms ns : List ℕ) → length ns ≡ length ms → fullLengths ms ns ≡ ms
+pub full-sizes : (ms ns : List ℕ) → length ns ≡ length ms → fullLengths ms ns ≡ ms
 full-sizes [] [] h = refl
 full-sizes [] (n ∷ ns) h = absurd (omega (arith, h))
 full-sizes (m ∷ ms) [] h = absurd (omega (arith, h))
 full-sizes (m ∷ ms) (n ∷ ns) h = ap (m ∷_) (full-sizes ms ns (omega (arith, h)))
 
-fit-count : (ms ns : List ℕ) → fitting ms (fullLengths ms ns) ≡ true → length ns ≡ length ms
+pub fit-count : (ms ns : List ℕ) → fitting ms (fullLengths ms ns) ≡ true → length ns ≡ length ms
 fit-count ms ns h = sym (full-count ms ns) ∙ fitting-count ms (fullLengths ms ns) h
 
 -- so they fit or don't, whatever stood there
@@ -55,7 +55,7 @@ sizes-fit (c ∷ cs) h =
     let z : within 1 4096 (c .size) ≡ true = and-true (isType (c .writable)) _ (and-true _ _ (w .0) .0) .1 in
     replicate-fits (c .blocks) (c .size) (blockSizes cs) (leb-true _ _ (and-true _ _ z .0)) (sizes-fit cs (w .1))
 
-curves-fit : (cs : List Curve) → usableCurves cs ≡ true → fitting (blockSizes cs) (blockSizes cs) ≡ true
+pub curves-fit : (cs : List Curve) → usableCurves cs ≡ true → fitting (blockSizes cs) (blockSizes cs) ≡ true
 unfolding usableCurves
 curves-fit cs h = sizes-fit cs (all-at (curveRules cs) h 1)
 

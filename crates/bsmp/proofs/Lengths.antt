@@ -39,13 +39,13 @@ fitting-count [] (n ∷ ns) h = absurd (false≢true h)
 fitting-count (m ∷ ms) [] h = absurd (false≢true h)
 fitting-count (m ∷ ms) (n ∷ ns) h = ap suc (fitting-count ms ns (and-true (within 1 m n) _ h .1))
 
-fitting-least : (ms ns : List ℕ) → fitting ms ns ≡ true → (k : ℕ) → k < length ms → 1 ≤ getD ns k 0
+pub fitting-least : (ms ns : List ℕ) → fitting ms ns ≡ true → (k : ℕ) → k < length ms → 1 ≤ getD ns k 0
 fitting-least [] ns h k l = absurd (omega (arith, l))
 fitting-least (m ∷ ms) [] h k l = absurd (false≢true h)
 fitting-least (m ∷ ms) (n ∷ ns) h zero l = leb-true 1 n (and-true _ _ (and-true (within 1 m n) _ h .0) .0)
 fitting-least (m ∷ ms) (n ∷ ns) h (suc k) l = fitting-least ms ns (and-true (within 1 m n) _ h .1) k (omega (arith, l))
 
-fitting-most : (ms ns : List ℕ) → fitting ms ns ≡ true → (k : ℕ) → getD ns k 0 ≤ getD ms k 0
+pub fitting-most : (ms ns : List ℕ) → fitting ms ns ≡ true → (k : ℕ) → getD ns k 0 ≤ getD ms k 0
 fitting-most [] [] h k = omega arith
 fitting-most [] (n ∷ ns) h k = absurd (false≢true h)
 fitting-most (m ∷ ms) [] h k = absurd (false≢true h)
