@@ -95,9 +95,7 @@ module _ (t : Table) (s : State) (u : usable t s ≡ true) (k : ℕ) (d : List �
 
   filled-holds : contentOf (after (fill k d) s) k ≡ d
   unfolding after
-  filled-holds =
-      ap₂ take (getD-set-same (s .lengths) k (length d) 0 (there .1)) filled-block
-      ∙ take-filled d (blockOf s k)
+  filled-holds = ap₂ take (getD-set-same (s .lengths) k (length d) 0 (there .1)) filled-block ∙ take-filled d (blockOf s k)
 
   filled-stale : drop (length d) (blockOf (after (fill k d) s) k) ≡ drop (length d) (blockOf s k)
   filled-stale = ap (drop (length d)) filled-block ∙ drop-at d _ (length d) refl
@@ -155,9 +153,9 @@ module _ (t : Table) (c : CurveNumber) (j : ℕ) (d : List ℕ) (busy : ℕ) (m 
 
   fits : Fits t s (fill place d)
   fits =
-      let c : clear (testsOf (asked (layout t) (s .groups) m) busy) =
-      judge-case (layout t) (s .groups) busy m (λ v. v ≡ Pass → clear (testsOf (asked (layout t) (s .groups) m) busy)) (λ e h. absurd (fail-no e h)) (λ f c h. c) (w .passes) in
-      subst (Fits t s) change (line-fits t s busy (drop 3 m) u WriteBlock (rw (w .command) at c))
+      let k : clear (testsOf (asked (layout t) (s .groups) m) busy) =
+      judge-case (layout t) (s .groups) busy m (λ v. v ≡ Pass → clear (testsOf (asked (layout t) (s .groups) m) busy)) (λ e h. absurd (fail-no e h)) (λ f g h. g) (w .passes) in
+      subst (Fits t s) change (line-fits t s busy (drop 3 m) u WriteBlock (rw (w .command) at k))
 
   -- "a write sets it": the block holds what was carried ..
   pub holds : contentOf (handled (layout t) busy m s .state) (blockPlace (layout t) c j) ≡ d
@@ -179,7 +177,7 @@ module _ (t : Table) (c : CurveNumber) (j : ℕ) (d : List ℕ) (busy : ℕ) (m 
       let n : length (drop 3 q) ≡ 3 = front t c j busy′ q now r in
       let k : 1 ≤ length (drop 3 (drop 3 m)) = rw (w .carries) (fits .0) in (
         told-block t c j busy′ q now r ∙ ap (λ x. replies 0x41 (drop 3 q ++ x)) holds,
-        rw (← w .carries) (simp (length-append, length-drop) (omega (arith, n, simp length-drop at n, simp length-drop at k))),
+        rw (← w .carries) (simp (length-append, length-drop) (omega (arith, simp length-drop at n, simp length-drop at k))),
       )
 
 -- no other message changes any block, or its length
@@ -205,11 +203,10 @@ module _ (t : Table) (c : CurveNumber) where
   before-stay u over i h = refl
   before-stay {j = j} {s = s} u (next {d = d} busy m w r) i h =
       let o = others-stay t c j d busy m s u w i (λ e. omega arith) in
-      before-stay (handled-usable t busy m s u) r i (omega arith)
-      ∙ ap₂ take (o .1) (o .0)
+      before-stay (handled-usable t busy m s u) r i (omega arith) ∙ ap₂ take (o .1) (o .0)
 
   -- .. and those from j on hold what was carried
-  all-held : {j : ℕ} {ds : List (List ℕ)} {s s′ : State} → usable t s ≡ true → Download t c j ds s s′
+  pub all-held : {j : ℕ} {ds : List (List ℕ)} {s s′ : State} → usable t s ≡ true → Download t c j ds s s′
       → (i : ℕ) → i ≡ blockPlace (layout t) c j → map (contentOf s′) (upFrom i (length ds)) ≡ ds
   all-held u over i e = refl
   all-held {j = j} {s = s} {s′ = s′} u (next {d = d} busy m w r) i e =
@@ -217,7 +214,7 @@ module _ (t : Table) (c : CurveNumber) where
       ap₂ _∷_ (ap (contentOf s′) e ∙ before-stay n r (blockPlace (layout t) c j) (omega arith) ∙ holds t c j d busy m s u w)
       (all-held n r (suc i) (omega arith))
 
-  -- so a curve of which each block was written holds the written bytes in block order, and its sum would be theirs
+  -- so the MD5 of a curve of which each block was written is that of the written bytes, "in block order"
   pub downloaded : {ds : List (List ℕ)} {s s′ : State} → usable t s ≡ true → Download t c 0 ds s s′ → length ds ≡ curveOf (layout t) c .blocks
       → curveSum (layout t) s′ c ≡ digest (join ds)
   downloaded {ds = ds} {s = s} {s′ = s′} u r n =

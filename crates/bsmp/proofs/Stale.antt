@@ -106,7 +106,7 @@ module _ (t : Table) (a : Place) where
   never-unread [] s = refl
   never-unread (e ∷ es) s = rw (never-read e s) (never-unread es (happen t a e s .state))
 
-  -- "bytes past the length": the same events, none of them a fresh board, end alike, and the boards still differ at most there
+  -- the same events, none of them a fresh board, end alike, and the boards still differ at most in such bytes
   pub stale-apart : (es : List Event) (s₁ s₂ : State) → AlikeButStale s₁ s₂ → neverFresh es ≡ true
       → (endings t a es s₁ ≡ endings t a es s₂) × AlikeButStale (later t a es s₁) (later t a es s₂)
   stale-apart es s₁ s₂ h f = before hidden t a es s₁ s₂ f h (never-unread es s₁)

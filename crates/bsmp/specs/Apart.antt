@@ -36,8 +36,8 @@ pub record AlikeButStale (s₁ s₂ : State) : Type 0 where
   pub sums : s₁ .sums ≡ s₂ .sums
   pub groups : s₁ .groups ≡ s₂ .groups
 
--- "packets, function results and board stores", each with its busy marks and the length of its reply buffer; and the sums worked out, as for a
--- fresh board (02, 2026-02)
+-- "packets, function results and board stores", each with its busy marks and the length of its reply buffer; and a fresh board's lengths and
+-- sums (02, 2026-02 and 2026-03)
 pub data Event : Type 0 where
   arrives : (busy room : ℕ) → List ℕ → Event
   returns : (room : ℕ) → FunctionNumber → (due : Bool) → Ran → Event
@@ -54,7 +54,7 @@ happen t a freshens s = freshBoard t s
 abbrev pub tells : VariableNumber → Answer → Bool
 tells v a = some (isSame v) (told a)
 
--- the same of whatever answers tell: an answered, accepted packet whose answer does
+-- the same of whatever else answers may tell
 module _ (tell : Answer → Bool) where
   abbrev pub readBy : Line → Check → Bool
   readBy l (Fail e) = false
@@ -83,13 +83,13 @@ answerOf silence = []
 answerOf (run f i due) = []
 answerOf (Ending.refused n) = []
 
--- demand 3 for one event, of which rd says whether it reads v: for R is Alike v, for Same that v's bytes are equal
+-- demand 3 for one event, of which rd says whether it reads v; there R is Alike v, and Same that v's bytes are equal
 pub record Apart (R Same : State → State → Type 0) (r₁ r₂ : Result) (rd : Bool) : Type 0 where
   pub alike : R (r₁ .state) (r₂ .state)
   pub same : rd ≡ false → r₁ .ending ≡ r₂ .ending
   pub shows : rd ≡ true → (answerOf (r₁ .ending) ≡ answerOf (r₂ .ending)) ↔ Same (r₁ .state) (r₂ .state)
 
--- a run of events: how each ends, the state after all, that none of them reads v, and that none of them is a fresh board
+-- a run of events: how each ends, the state after all, and that none of them reads v
 abbrev pub endings : Table → Place → List Event → State → List Ending
 endings t a [] s = []
 endings t a (e ∷ es) s = happen t a e s .ending ∷ endings t a es (happen t a e s .state)
@@ -105,6 +105,7 @@ unreadBy tell t a (e ∷ es) s = not (readsBy tell t a e s) && unreadBy tell t a
 abbrev pub unread : Table → Place → VariableNumber → List Event → State → Bool
 unread t a v es s = unreadBy (tells v) t a es s
 
+-- and that none is a fresh board, which makes all blocks full and so brings stale bytes back
 abbrev pub isFresh : Event → Bool
 isFresh (arrives busy room p) = false
 isFresh (returns room f due r) = false
