@@ -2,7 +2,7 @@
 use mathlib.Core.Path.{_≡_, refl, sym, ap, ap₂, _∙_}
 use mathlib.Core.Bool.{Bool, true, false, cond, not, _&&_, and-assoc, and-true as and-on}
 use mathlib.Core.List.{List, [], _∷_, _++_, append-nil}
-use Prim.Native.Nat.{ℕ, zero, suc, _+_, _-_, _≤_, _<_}
+use Prim.Native.Nat.{ℕ, zero, suc, _+_, _-_, _*_, _≤_, _<_}
 use native.Mathlib.Omega.{arith}
 use native.Mathlib.Numerals.{add-one}
 use native.Mathlib.Decide.{decLt}
@@ -19,7 +19,7 @@ use Rattle.bsmp.specs.declared.Curve.{Curve}
 use Rattle.bsmp.proofs.Bools.{and-true, not-so}
 use Rattle.bsmp.proofs.Lengths.{fitting-count}
 use Rattle.records.specs.Lending.{curveBlocks}
-use Rattle.records.proofs.Sound.{curve-size}
+use Rattle.records.proofs.Sound.{curve-size, blocks-small}
 use Rattle.records.proofs.Blocks.{block-count, blocks-next, blocks-within, blocks-add}
 use Rattle.rules.specs.Totals.{commonSize, firstSize, curvesTotal}
 use Rattle.rules.specs.declared.CurveTotal.{CurveTotal}
@@ -60,7 +60,7 @@ common-short cs u = by (every (ofSize (firstSize cs)) cs) (decLt 0 (length cs))
     by true (no k) = let o : firstSize cs ≡ 0 = ap (λ (c : Curve). c .size) (List·getD-eq-default cs blankCurve (omega arith)) in omega (arith, o)
 
 -- d is what the curves add up to
-module _ (cs : List Curve) (ns : List ℕ) (d : CurveTotal) (e : d ≡ curvesTotal cs) (u : d .usable ≡ true) where
+module _ (cs : List Curve) (d : CurveTotal) (e : d ≡ curvesTotal cs) (u : d .usable ≡ true) where
   pub usable-ones : usableCurves cs ≡ true
   usable-ones = sym (curves-usable _ _ d e) ∙ u
 
@@ -70,22 +70,26 @@ module _ (cs : List Curve) (ns : List ℕ) (d : CurveTotal) (e : d ≡ curvesTot
   size-told : d .size ≡ commonSize cs
   size-told = ap (λ (y : CurveTotal). y .size) (curves-told _ _ d e u)
 
-  pub lengths-counted : d .blocks ≡ length ns → length ns ≡ curveBlocks cs
-  lengths-counted h = sym h ∙ blocks-told
-
-  pub lengths-uneven : (d .blocks ≡ length ns → ⊥) → false ≡ fitting (blockSizes cs) ns
-  lengths-uneven n = sym (not-so _ (λ f. n (blocks-told ∙ sym (block-count cs) ∙ sym (fitting-count (blockSizes cs) ns f))))
-
   pub size-short : Fits w16 (d .size)
   size-short = record { fits = omega (arith, size-told, common-short cs usable-ones) }
 
-  pub fitted-at-once : (b : Bool) → d .blocks ≡ length ns → 0 < d .size → b ≡ every (within 1 (d .size)) ns → b ≡ fitting (blockSizes cs) ns
-  fitted-at-once b l h q =
-      let n : length ns ≡ curveBlocks cs = lengths-counted l in
-      let o : blockSizes cs ≡ replicate (curveBlocks cs) (d .size) ++ [] = rw (append-nil, size-told) (common-size cs (rw size-told at h)) in
-      let k : take (curveBlocks cs) ns ≡ ns = take-all (curveBlocks cs) ns (omega arith) in
-      let z : drop (curveBlocks cs) ns ≡ [] = drop-of-length-le ns {i = curveBlocks cs} (omega arith) in
-      q ∙ sym (ap (λ ms. fitting ms ns) o ∙ fitting-part (curveBlocks cs) (d .size) [] ns (omega arith) ∙ rw (k, z) (and-on _))
+  module _ (ns : List ℕ) where
+    pub lengths-counted : d .blocks ≡ length ns → length ns ≡ curveBlocks cs
+    lengths-counted h = sym h ∙ blocks-told
+
+    pub lengths-uneven : (d .blocks ≡ length ns → ⊥) → false ≡ fitting (blockSizes cs) ns
+    lengths-uneven n = sym (not-so _ (λ f. n (blocks-told ∙ sym (block-count cs) ∙ sym (fitting-count (blockSizes cs) ns f))))
+
+    pub fitted-at-once : (b : Bool) → d .blocks ≡ length ns → 0 < d .size → b ≡ every (within 1 (d .size)) ns → b ≡ fitting (blockSizes cs) ns
+    fitted-at-once b l h q =
+        let n : length ns ≡ curveBlocks cs = lengths-counted l in
+        let o : blockSizes cs ≡ replicate (curveBlocks cs) (d .size) ++ [] = rw (append-nil, size-told) (common-size cs (rw size-told at h)) in
+        let k : take (curveBlocks cs) ns ≡ ns = take-all (curveBlocks cs) ns (omega arith) in
+        let z : drop (curveBlocks cs) ns ≡ [] = drop-of-length-le ns {i = curveBlocks cs} (omega arith) in
+        q ∙ sym (ap (λ ms. fitting ms ns) o ∙ fitting-part (curveBlocks cs) (d .size) [] ns (omega arith) ∙ rw (k, z) (and-on _))
+
+pub fitted-short : (cs : List Curve) (n i : ℕ) (x : Curve) → usableCurves cs ≡ true → n ≡ length cs → i < n → x ≡ getD cs i blankCurve → Fits w16 (x .size)
+fitted-short cs n i x u m h e = record { fits = rw e (omega (arith, curve-size cs u i (omega arith))) }
 
 -- curve after curve: the walk stands at curve i, whose first length is at `first`, and so far each fitted ---------------------
 pub record Fitted (cs : List Curve) (ns : List ℕ) (first i : ℕ) : Type 0 where
@@ -106,8 +110,9 @@ module _ (cs : List Curve) (ns : List ℕ) where
     pub fitted-inside : first + x .blocks ≤ length ns
     fitted-inside = rw l (blocks-within cs n i first x u (omega arith) h e (q .start))
 
-    pub fitted-short : Fits w16 (x .size)
-    fitted-short = record { fits = rw e (omega (arith, curve-size cs u i (omega arith))) }
+    -- a length has two bytes
+    pub fitted-bytes : Fits w64 (first * 2)
+    fitted-bytes = record { fits = omega (arith, fitted-inside, blocks-small cs u) }
 
     module _ (b : Bool) (t : b ≡ every (within 1 (x .size)) (midOf first (first + x .blocks - first) ns)) where
       here : (b && fitting (blockSizes (drop (i + 1) cs)) (drop (first + x .blocks) ns)) ≡ fitting (blockSizes cs) ns

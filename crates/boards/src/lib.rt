@@ -126,8 +126,9 @@ fn fitting_curves(curves: &[u32], lengths: &[u16]) -> bool
     let mut i: usize = 0;
     while i < n {
         let curve = records::curve_at(curves, CurveNumber(i));
+        let size = curve.size as u16;
         let end = first + curve.blocks as usize;
-        if !rules::fitting(&lengths[first..end], curve.size as u16) {
+        if !rules::fitting(&lengths[first..end], size) {
             return false;
         }
         first = end;

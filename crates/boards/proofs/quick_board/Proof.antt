@@ -1,6 +1,7 @@
 -- `quick_board` meets its contract. Assumes nothing.
 use borrow.Author.Needs.{needs}
-use Rattle.boards.proofs.Whole.{board-own, board-curves, board-blocks, board-sums, board-groups, board-quick}
+use borrow.Author.Tests.{not-false}
+use Rattle.boards.proofs.Whole.{board-own, board-curves, board-blocks, board-sums, board-lengths, board-groups, board-quick}
 use Rattle.boards.proofs.quick_board.Statement.{statement}
 use Rattle.boards.proofs.quick_board.Tie as tie
 
@@ -16,6 +17,8 @@ quick-board-spec =
     (λ c. search (board-curves, needs))
     (λ c. search needs)
     (λ c. search (board-blocks, needs))
+    (λ c κs. search (not-false, needs))
+    (λ c. search (board-lengths, needs))
     (λ c κs. search needs)
     (λ c. search (board-groups, needs))
     (λ c κs. search needs)
