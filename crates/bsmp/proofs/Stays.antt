@@ -79,7 +79,7 @@ each-sixteen f i [] h = refl
 each-sixteen f i (c ∷ cs) h = ap₂ _∷_ (h i) (each-sixteen f (suc i) cs h)
 
 -- a block's length set to one that fits it
-lengths-set : (ms ns : List ℕ) (k n : ℕ) → fitting ms ns ≡ true → 1 ≤ n → n ≤ getD ms k 0 → fitting ms (set ns k n) ≡ true
+pub lengths-set : (ms ns : List ℕ) (k n : ℕ) → fitting ms ns ≡ true → 1 ≤ n → n ≤ getD ms k 0 → fitting ms (set ns k n) ≡ true
 lengths-set [] [] k n h a b = refl
 lengths-set [] (x ∷ ns) k n h a b = absurd (false≢true h)
 lengths-set (m ∷ ms) [] k n h a b = absurd (false≢true h)

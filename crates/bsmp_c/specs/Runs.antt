@@ -12,7 +12,7 @@ use Rattle.bsmp.specs.declared.Outcome.the-variants as O
 use Rattle.results.specs.Results.{ranOf}
 use Rattle.plain.specs.Lending.{Lending, lending}
 use Rattle.plain.specs.Numbers.{plainOutcomeOf, ranFrom}
-use Rattle.plain.specs.Calls.{PlainPacketLeft, packetOf, PlainResultLeft, resultOf, PlainBytesLeft, storeOf, freshOf}
+use Rattle.plain.specs.Calls.{PlainPacketLeft, packetOf, PlainResultLeft, resultOf, PlainBytesLeft, storeOf, PlainFreshLeft, freshOf}
 use Rattle.plain.specs.declared.PlainOutcome.{PlainOutcome}
 
 -- a call: what is handed in beside the board, and what the function leaves
@@ -24,7 +24,7 @@ pub data Turn : Type 0 where
   -- `bsmp_board_store`: variable, bytes
   storeTurn : ℕ → List ℕ → PlainBytesLeft → Turn
   -- `bsmp_fresh_board`
-  freshTurn : PlainBytesLeft → Turn
+  freshTurn : PlainFreshLeft → Turn
 
 -- the promise of the function, on the board x with these addresses
 abbrev pub Promised : (own multicast : ℕ) → Lending → Turn → Type 0
@@ -35,10 +35,10 @@ Promised own multicast x (freshTurn z) = z ≡ freshOf x
 
 -- the board as the call leaves it
 abbrev pub leftIn : Lending → Turn → Lending
-leftIn x (packetTurn busy p b z) = lending (x .variables) (x .curves) (x .functions) (z .groups) (z .values) (z .blocks) (z .sums)
+leftIn x (packetTurn busy p b z) = lending (x .variables) (x .curves) (x .functions) (z .groups) (z .values) (z .blocks) (z .lengths) (z .sums)
 leftIn x (resultTurn f due failed error out b z) = x
-leftIn x (storeTurn i b z) = lending (x .variables) (x .curves) (x .functions) (x .groups) (z .bytes) (x .blocks) (x .sums)
-leftIn x (freshTurn z) = lending (x .variables) (x .curves) (x .functions) (x .groups) (x .values) (x .blocks) (z .bytes)
+leftIn x (storeTurn i b z) = lending (x .variables) (x .curves) (x .functions) (x .groups) (z .bytes) (x .blocks) (x .lengths) (x .sums)
+leftIn x (freshTurn z) = lending (x .variables) (x .curves) (x .functions) (x .groups) (x .values) (x .blocks) (z .lengths) (z .sums)
 
 -- each call starts from what the last one left
 abbrev pub Runs : (own multicast : ℕ) → Lending → List Turn → Type 0

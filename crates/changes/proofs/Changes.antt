@@ -1,13 +1,13 @@
 -- What a command that passed changes of what is lent, from what its change says of the part that it writes. Assumes nothing.
-use mathlib.Core.Path.{_≡_, refl, ap}
+use mathlib.Core.Path.{_≡_, refl, ap, ap₂}
 use mathlib.Core.List.{List, [], _∷_, _++_, map}
-use Prim.Native.Nat.{ℕ, _<_}
+use Prim.Native.Nat.{ℕ, _≤_, _<_}
 use native.Mathlib.Omega.{arith}
-use lib.ListN.{length, drop, set, getD}
+use lib.ListN.{length, drop, set, getD, length-drop}
 use Rattle.md5.specs.Md5.{digest}
-use Rattle.bsmp.specs.Base.{cut, byteAt}
+use Rattle.bsmp.specs.Base.{cut, byteAt, wordAt}
 use Rattle.bsmp.specs.Codes.{operationOf}
-use Rattle.bsmp.specs.Board.{Layout, State, sizeOf, members, withValues, withBlocks, withSums, withGroups, contentOf}
+use Rattle.bsmp.specs.Board.{Layout, State, blockSizes, sizeOf, members, withValues, withBlocks, withLengths, withSums, withGroups, contentsOf}
 use Rattle.bsmp.specs.Message.{nothing, edit, fill, renew, regroup, variableAt, groupAt, curveAt, line, edited, filled, after}
 use Rattle.bsmp.specs.Store.{Lent, held}
 use Rattle.bsmp.specs.declared.VariableNumber.{VariableNumber}
@@ -18,6 +18,7 @@ use Rattle.bsmp.specs.declared.Operation.{Operation}
 use Rattle.bsmp.specs.declared.Operation.the-variants.{Replace}
 use Rattle.bsmp.specs.declared.Command.{Command}
 use Rattle.bsmp.specs.declared.Command.the-variants.{WriteVariable, WriteGroup, MaskVariable, MaskGroup, WriteRead, MakeGroup, RemoveGroups, WriteBlock, RenewSum}
+use Rattle.bsmp.proofs.Stays.{lengths-set, block-size}
 use Rattle.sets.specs.Promises.{Below, Named}
 use Rattle.parts.specs.Parts.{layoutOf, variablesOnly, Passed}
 use Rattle.records.specs.Lending.{lentValues, lentBlocks, lentSums}
@@ -25,7 +26,7 @@ use Rattle.variables.specs.Fits.{OneFits}
 use Rattle.variables.proofs.Passes as variables
 use Rattle.groups.specs.Promises.{GroupFits}
 use Rattle.groups.proofs.Pass as groups
-use Rattle.curves.specs.Fits.{BlockFits, CurveNamed, blocksIn, placeOf, namedBlock, sumsIn, contentIn}
+use Rattle.curves.specs.Fits.{SoundLengths, BlockFits, CurveNamed, namedCurve, blocksIn, placeOf, namedBlock, sumsIn, contentIn}
 use Rattle.curves.proofs.Passes as curves
 use Rattle.judging.specs.Judging.{SoundBoard}
 use Rattle.changes.specs.Changes.{regrouped, removal, LeftAs, ChangedBy}
@@ -85,38 +86,47 @@ module _ (ns : List ℕ) (w : ℕ) (cs : List Curve) (fs : List Function) (gs p 
   pub make-needs : (x : Lent) → SoundBoard (layoutOf ns w cs fs) x → k ≡ MakeGroup → Passes → Below 64 p
   make-needs x s e h = groups.make-below ns w cs fs gs p (as-command _ _ _ _ MakeGroup e h) (s .variables .few)
 
+-- a length set to as many bytes as a block write carries
+write-fit : (cs : List Curve) (p ls : List ℕ) → SoundLengths cs ls → BlockFits cs p → SoundLengths cs (set ls (placeOf cs p) (length (drop 3 p)))
+write-fit cs p ls z h =
+    let n : getD (blockSizes cs) (placeOf cs p) 0 ≡ namedCurve cs p .size = block-size cs (byteAt p 0) (wordAt p 1) (h .named .known) (h .named .below) in
+    let a : 1 ≤ length (drop 3 p) = simp length-drop (omega (arith, h .some)) in
+    let b : length (drop 3 p) ≤ getD (blockSizes cs) (placeOf cs p) 0 = simp length-drop (omega (arith, h .fits, n)) in
+    record { fit = lengths-set (blockSizes cs) ls (placeOf cs p) (length (drop 3 p)) (z .fit) a b }
+
 -- what is then left of what is lent
-module _ (l : Layout) (x : Lent) where
-  stays : (s : State) (y : Lent) → held l y ≡ s → LeftAs l s Keep y
-  stays s y h = record { holds = h; some-removed = λ e. let z : _≡_ {A = ℕ} 0 1 = cc in absurd (omega arith) }
+stays : (l : Layout) (s : State) (y : Lent) → held l y ≡ s → LeftAs l s Keep y
+stays l s y h = record { holds = h; some-removed = λ e. let z : _≡_ {A = ℕ} 0 1 = cc in absurd (omega arith) }
 
-  pub all-kept : LeftAs l (held l x) Keep x
-  all-kept = stays (held l x) x refl
+pub all-kept : (l : Layout) (x : Lent) → LeftAs l (held l x) Keep x
+all-kept l x = stays l (held l x) x refl
 
-  -- a change that leaves all as it was, one of the values alone, one of the blocks, one of the sums, and one of the made groups
+module _ (l : Layout) (x : Lent) (z : SoundBoard l x) where
+  -- a change that leaves all as it was, one of the values alone, one of a block and its length, one of the sums, and one of the made groups
   kept : ChangedBy l x nothing Keep x
   unfolding after
-  kept = record { leaves = all-kept }
+  kept = record { leaves = all-kept l x; fit = z .lengths }
 
   values-edited : (op : Operation) (is : List VariableNumber) (ps : List (List ℕ)) (vs : List ℕ)
       → cut (l .sizes) vs ≡ edited op is ps (cut (l .sizes) (x .values)) → ChangedBy l x (edit op is ps) Keep (lentValues x vs)
   unfolding after
-  values-edited op is ps vs h = record { leaves = stays _ (lentValues x vs) (ap (withValues (held l x)) h) }
+  values-edited op is ps vs h = record { leaves = stays l _ (lentValues x vs) (ap (withValues (held l x)) h); fit = z .lengths }
 
-  block-filled : (k : ℕ) (d bs : List ℕ)
+  block-filled : (k : ℕ) (d bs ls : List ℕ)
       → blocksIn (l .curves) bs ≡ set (blocksIn (l .curves) (x .blocks)) k (filled d (getD (blocksIn (l .curves) (x .blocks)) k []))
-      → ChangedBy l x (fill k d) Keep (lentBlocks x bs)
+      → ls ≡ set (x .lengths) k (length d) → SoundLengths (l .curves) ls → ChangedBy l x (fill k d) Keep (lentBlocks x bs ls)
   unfolding after
-  block-filled k d bs h = record { leaves = stays _ (lentBlocks x bs) (ap (withBlocks (held l x)) h) }
+  block-filled k d bs ls h n f =
+      record { leaves = stays l _ (lentBlocks x bs ls) (ap₂ (λ ps ns. withLengths (withBlocks (held l x) ps) ns) h n); fit = f }
 
   sum-renewed : (c : CurveNumber) (k n : ℕ) (ds : List ℕ)
-      → sumsIn (l .curves) ds ≡ set (sumsIn (l .curves) (x .sums)) (c .0) (digest (contentOf (held l x) k n)) → ChangedBy l x (renew c k n) Keep (lentSums x ds)
+      → sumsIn (l .curves) ds ≡ set (sumsIn (l .curves) (x .sums)) (c .0) (digest (contentsOf (held l x) k n)) → ChangedBy l x (renew c k n) Keep (lentSums x ds)
   unfolding after
-  sum-renewed c k n ds h = record { leaves = stays _ (lentSums x ds) (ap (withSums (held l x)) h) }
+  sum-renewed c k n ds h = record { leaves = stays l _ (lentSums x ds) (ap (withSums (held l x)) h); fit = z .lengths }
 
   groups-made : (r : Regroup) (gs : List ℕ) → regrouped r (x .groups) ≡ gs → (r ≡ Remove → 0 < length (x .groups)) → ChangedBy l x (regroup gs) r x
   unfolding after
-  groups-made r gs h k = record { leaves = record { holds = ap (withGroups (held l x)) h; some-removed = k } }
+  groups-made r gs h k = record { leaves = record { holds = ap (withGroups (held l x)) h; some-removed = k }; fit = z .lengths }
 
   module _ (p : List ℕ) (k : Command) where
     abbrev Changed : Regroup → Lent → Type 0
@@ -160,14 +170,17 @@ module _ (l : Layout) (x : Lent) where
       unfolding line members
       group-masked op e o h = rw (e, ← o) (values-edited op _ _ vs h)
 
-    pub block-written : (bs : List ℕ) → k ≡ WriteBlock
-        → blocksIn (l .curves) bs ≡ set (blocksIn (l .curves) (x .blocks)) (placeOf (l .curves) p) (filled (drop 3 p) (namedBlock (l .curves) (x .blocks) p))
-        → Changed Keep (lentBlocks x bs)
+    pub block-written : (bs ls : List ℕ) → k ≡ WriteBlock → Passed l (x .groups) p k
+        → (blocksIn (l .curves) bs ≡ set (blocksIn (l .curves) (x .blocks)) (placeOf (l .curves) p) (filled (drop 3 p) (namedBlock (l .curves) (x .blocks) p)))
+        × (ls ≡ set (x .lengths) (placeOf (l .curves) p) (length (drop 3 p)))
+        → Changed Keep (lentBlocks x bs ls)
     unfolding line
-    block-written bs e h = rw e (block-filled _ _ bs h)
+    block-written bs ls e w h =
+        let f : BlockFits (l .curves) p = block-needs (l .sizes) (l .writable) (l .curves) (l .functions) (x .groups) p k e w in
+        rw e (block-filled _ _ bs ls (h .0) (h .1) (rw (h .1) (write-fit (l .curves) p (x .lengths) (z .lengths) f)))
 
     pub sum-worked : (c : CurveNumber) (ds : List ℕ) → k ≡ RenewSum → c ≡ curveAt p 0
-        → sumsIn (l .curves) ds ≡ set (sumsIn (l .curves) (x .sums)) (c .0) (digest (contentIn (l .curves) (x .blocks) c)) → Changed Keep (lentSums x ds)
+        → sumsIn (l .curves) ds ≡ set (sumsIn (l .curves) (x .sums)) (c .0) (digest (contentIn (l .curves) (x .blocks) (x .lengths) c)) → Changed Keep (lentSums x ds)
     unfolding line
     sum-worked c ds e f h = rw e (sum-renewed _ _ _ ds (rw f at h))
 

@@ -47,5 +47,5 @@ left-unique l s gs r r′ y y′ g g′ h k =
     let ds : y .sums ≡ y′ .sums =
     cut-unique (sumSizes (l .curves)) (s .sums) (y .sums) (y′ .sums) (ap (λ (x : State). x .sums) (h .holds)) (ap (λ (x : State). x .sums) (k .holds)) in (
       regroup-unique gs r r′ (λ q. rw (← g) (h .some-removed q)) (λ q. rw (← g′) (k .some-removed q)) e,
-      λ i. record { values = vs i; blocks = bs i; sums = ds i; groups = (g ∙ sym g′) i },
+      λ i. record { values = vs i; blocks = bs i; lengths = (ap (λ (x : State). x .lengths) (h .holds ∙ sym (k .holds))) i; sums = ds i; groups = (g ∙ sym g′) i },
     )

@@ -7,6 +7,7 @@ use Rattle.bsmp.specs.Board.{Layout, State}
 use Rattle.bsmp.specs.Message.{Change, after}
 use Rattle.bsmp.specs.Store.{Lent, held}
 use Rattle.records.specs.Lending.{lentGroups}
+use Rattle.curves.specs.Fits.{SoundLengths}
 use Rattle.changes.specs.declared.Regroup.{Regroup}
 use Rattle.changes.specs.declared.Regroup.the-variants.{Keep, Make, Remove}
 
@@ -31,6 +32,7 @@ pub record LeftAs (l : Layout) (s : State) (r : Regroup) (y : Lent) : Type 0 whe
   pub holds : held l (withRegroup r y) ≡ s
   pub some-removed : r ≡ Remove → 0 < length (y .groups)
 
--- a change of x, as the definition gives it
+-- a change of x, as the definition gives it; and each block's length still fits
 pub record ChangedBy (l : Layout) (x : Lent) (ch : Change) (r : Regroup) (y : Lent) : Type 0 where
   pub leaves : LeftAs l (after ch (held l x)) r y
+  pub fit : SoundLengths (l .curves) (y .lengths)

@@ -36,34 +36,34 @@ use Rattle.node.specs.Promise.{tableWith, packetLeft, packetLeftOf, unop
 use Rattle.node.proofs.Receiving.{stopped}
 
 -- any board ----------------------------------------------------------------------------------------------------------------------
-pub board-ready : (r : Records) (cs fs : List ℕ) (g : Groups) (vs bs ds : List ℕ) (u : Bool) → Tested u r cs fs g vs bs ds → not u ≡ false → BoardReady r cs fs g vs bs ds
-board-ready r cs fs g vs bs ds u tested v = tested .ready (not-false u v)
+pub board-ready : (r : Records) (cs fs : List ℕ) (g : Groups) (vs bs ls ds : List ℕ) (u : Bool) → Tested u r cs fs g vs bs ls ds → not u ≡ false → BoardReady r cs fs g vs bs ls ds
+board-ready r cs fs g vs bs ls ds u tested v = tested .ready (not-false u v)
 
-module _ (r : Records) (cs fs : List ℕ) (g : Groups) (vs bs ds : List ℕ) (own mc busy : ℕ) (p b : List ℕ) (o : Outcome) (q : Regroup) where
+module _ (r : Records) (cs fs : List ℕ) (g : Groups) (vs bs ls ds : List ℕ) (own mc busy : ℕ) (p b : List ℕ) (o : Outcome) (q : Regroup) where
   abbrev T : Table
   T = tableOf r cs fs
 
   abbrev X : Lent
-  X = lent vs bs ds (groupsOf g)
+  X = lent vs bs ls ds (groupsOf g)
 
   abbrev A : Place
   A = placed own mc
 
-  pub carried-unusable : (u : Bool) → Tested u r cs fs g vs bs ds → not u ≡ true → o ≡ O.Refused BoardUnusable → q ≡ Keep → CarriedAs T A busy p X b o q b X
+  pub carried-unusable : (u : Bool) → Tested u r cs fs g vs bs ls ds → not u ≡ true → o ≡ O.Refused BoardUnusable → q ≡ Keep → CarriedAs T A busy p X b o q b X
   unfolding packet
   carried-unusable u tested v e f = record {
     ends = stopped (layout T) X b _ BoardUnusable o q (faults-some T (held (layout T) X) _ _ _ (sym (tested .is) ∙ not-true u v) refl) e f;
   }
 
   -- the packet's tests, on a usable board
-  module _ (u : Bool) (tested : Tested u r cs fs g vs bs ds) (v : not u ≡ false) (d : Opened) (e : d ≡ openedOf A (length b) p) where
+  module _ (u : Bool) (tested : Tested u r cs fs g vs bs ls ds) (v : not u ≡ false) (d : Opened) (e : d ≡ openedOf A (length b) p) where
     abbrev Work : Result
     Work = served (layout T) busy (isOwn A (destination p)) (message p) (held (layout T) X)
 
     reached : (z : Result) → z ≡ first (placeTests A (length b)) (refuse (held (layout T) X)) (first (packetTests A p) (refuse (held (layout T) X)) Work)
         → z ≡ packet T A busy (length b) p (held (layout T) X)
     unfolding packet
-    reached z h = faults-none T (held (layout T) X) (refuse (held (layout T) X)) _ z (board-ready r cs fs g vs bs ds u tested v .usable-is) h
+    reached z h = faults-none T (held (layout T) X) (refuse (held (layout T) X)) _ z (board-ready r cs fs g vs bs ls ds u tested v .usable-is) h
 
     pub carried-unopened : (n : Refusal) → d ≡ Refused n → o ≡ unopenedOf d → q ≡ Keep → CarriedAs T A busy p X b o q b X
     carried-unopened n h f k = record {
@@ -86,20 +86,20 @@ module _ (r : Records) (cs fs : List ℕ) (g : Groups) (vs bs ds : List ℕ) (ow
   made = frontOf (g .count) (g .sets)
 
   -- what was lent by its fronts is what the definition has
-  pub lent-ends : (due : Bool) (b′ vs′ bs′ ds′ : List ℕ) → BoardReady r cs fs g vs bs ds
+  pub lent-ends : (due : Bool) (b′ vs′ bs′ ls′ ds′ : List ℕ) → BoardReady r cs fs g vs bs ls ds
       → (let l = typedLayout (frontOf (r .count) (r .sizes)) (frontOf (r .count) (r .writable)) cs fs in
-      EndsAs (served l busy due (midOf 1 (length p - 1 - 1) p) (held l (lent vs bs ds made))) l b o q b′ (lent vs′ bs′ ds′ made))
-      → EndsAs (served (layout T) busy due (message p) (held (layout T) X)) (layout T) b o q b′ (lent vs′ bs′ ds′ (groupsOf g))
-  lent-ends due b′ vs′ bs′ ds′ ready h =
-      subst (λ m. EndsAs (served (layout T) busy due m (held (layout T) X)) (layout T) b o q b′ (lent vs′ bs′ ds′ (groupsOf g))) (message-lent p)
-      (subst (λ gs. EndsAs (served (layout T) busy due (midOf 1 (length p - 1 - 1) p) (held (layout T) (lent vs bs ds gs))) (layout T) b o q b′ (lent vs′ bs′ ds′ gs)) (ready .groups-are)
-      (subst (λ l. EndsAs (served l busy due (midOf 1 (length p - 1 - 1) p) (held l (lent vs bs ds made))) l b o q b′ (lent vs′ bs′ ds′ made)) (ready .layout-is) h))
+      EndsAs (served l busy due (midOf 1 (length p - 1 - 1) p) (held l (lent vs bs ls ds made))) l b o q b′ (lent vs′ bs′ ls′ ds′ made))
+      → EndsAs (served (layout T) busy due (message p) (held (layout T) X)) (layout T) b o q b′ (lent vs′ bs′ ls′ ds′ (groupsOf g))
+  lent-ends due b′ vs′ bs′ ls′ ds′ ready h =
+      subst (λ m. EndsAs (served (layout T) busy due m (held (layout T) X)) (layout T) b o q b′ (lent vs′ bs′ ls′ ds′ (groupsOf g))) (message-lent p)
+      (subst (λ gs. EndsAs (served (layout T) busy due (midOf 1 (length p - 1 - 1) p) (held (layout T) (lent vs bs ls ds gs))) (layout T) b o q b′ (lent vs′ bs′ ls′ ds′ gs)) (ready .groups-are)
+      (subst (λ l. EndsAs (served l busy due (midOf 1 (length p - 1 - 1) p) (held l (lent vs bs ls ds made))) l b o q b′ (lent vs′ bs′ ls′ ds′ made)) (ready .layout-is) h))
 
 -- .. and the group table that it leaves -----------------------------------------------------------------------------------------
-module _ (t : Table) (a : Place) (busy : ℕ) (p vs bs ds : List ℕ) (g : Groups) (b : List ℕ) (o : Outcome) (r : Regroup) (b′ vs′ bs′ ds′ : List ℕ)
-    (h : CarriedAs t a busy p (lent vs bs ds (groupsOf g)) b o r b′ (lent vs′ bs′ ds′ (groupsOf g))) where
+module _ (t : Table) (a : Place) (busy : ℕ) (p vs bs ls ds : List ℕ) (g : Groups) (b : List ℕ) (o : Outcome) (r : Regroup) (b′ vs′ bs′ ls′ ds′ : List ℕ)
+    (h : CarriedAs t a busy p (lent vs bs ls ds (groupsOf g)) b o r b′ (lent vs′ bs′ ls′ ds′ (groupsOf g))) where
   abbrev S : State
-  S = held (layout t) (lent vs bs ds (groupsOf g))
+  S = held (layout t) (lent vs bs ls ds (groupsOf g))
 
   abbrev Z : Result
   Z = packet t a busy (length b) p S
@@ -126,14 +126,15 @@ module _ (t : Table) (a : Place) (busy : ℕ) (p vs bs ds : List ℕ) (g : Group
   packet-fits five = record { room = few (usable t S) refl; places = five }
 
   pub packet-left : (n : ℕ) (ps : List ℕ) → groupsBy n ps ≡ tableWith (regrouped r (groupsOf g)) g
-      → packetLeft (record { outcome = o; count = n }) ps b′ vs′ bs′ ds′ ≡ packetLeftOf Z b g
+      → packetLeft (record { outcome = o; count = n }) ps b′ vs′ bs′ ls′ ds′ ≡ packetLeftOf Z b g
   packet-left n ps e =
-      let z : held (layout t) (lent vs′ bs′ ds′ (regrouped r (groupsOf g))) ≡ Z .state = h .ends .leaves .holds in
+      let z : held (layout t) (lent vs′ bs′ ls′ ds′ (regrouped r (groupsOf g))) ≡ Z .state = h .ends .leaves .holds in
       λ i. record {
         outcome = h .ends .outcome i;
         groups = (e ∙ ap (λ s. tableWith (s .groups) g) z) i;
         reply = h .ends .reply i;
         values = (sym (join-cut (layout t .sizes) vs′) ∙ ap (λ s. join (s .values)) z) i;
         blocks = (sym (join-cut (blockSizes (layout t .curves)) bs′) ∙ ap (λ s. join (s .blocks)) z) i;
+        lengths = ap (λ s. s .lengths) z i;
         sums = (sym (join-cut (sumSizes (layout t .curves)) ds′) ∙ ap (λ s. join (s .sums)) z) i;
       }

@@ -105,19 +105,19 @@ types-pass (v ∷ vs) h =
     let t : isType (v .writable) ≡ true = and-true _ _ (and-true _ _ (w .0) .0) .0 in
     rw (t, types-pass vs (w .1))
 
-module _ (count : ℕ) (ws ss ks cs fs : List ℕ) (g : Groups) (vs bs ds : List ℕ) (u : Bool) where
+module _ (count : ℕ) (ws ss ks cs fs : List ℕ) (g : Groups) (vs bs ls ds : List ℕ) (u : Bool) where
   abbrev r : Records
   r = recordsBy count ws ss ks
 
   abbrev T : Table
   T = tableOf r cs fs
 
-  module _ (checked : u ≡ usable T (held (layout T) (lent vs bs ds (groupsOf g)))) (v : u ≡ true) (types : length ws ≡ 64) (sizes : length ss ≡ 64) (places : length (g .sets) ≡ 5) where
-    is-usable : usable T (held (layout T) (lent vs bs ds (groupsOf g))) ≡ true
+  module _ (checked : u ≡ usable T (held (layout T) (lent vs bs ls ds (groupsOf g)))) (v : u ≡ true) (types : length ws ≡ 64) (sizes : length ss ≡ 64) (places : length (g .sets) ≡ 5) where
+    is-usable : usable T (held (layout T) (lent vs bs ls ds (groupsOf g))) ≡ true
     is-usable = sym checked ∙ v
 
-    sound : R.Sound T (lent vs bs ds (groupsOf g))
-    sound = R.usable-sound T (lent vs bs ds (groupsOf g)) is-usable
+    sound : R.Sound T (lent vs bs ls ds (groupsOf g))
+    sound = R.usable-sound T (lent vs bs ls ds (groupsOf g)) is-usable
 
     few-records : r .count ≤ 64
     few-records = omega (arith, record-count r, R.variables-most (recordsOf r) (sound .variables))
@@ -143,7 +143,7 @@ module _ (count : ℕ) (ws ss ks cs fs : List ℕ) (g : Groups) (vs bs ds : List
     groups-same : frontOf (g .count) (g .sets) ≡ groupsOf g
     groups-same = front (g .count) (g .sets) ∙ sym (groups-lent g (omega (arith, few-groups, places)))
 
-    sound-board : SoundBoard (typedLayout (frontOf (r .count) (r .sizes)) (frontOf (r .count) (r .writable)) cs fs) (lent vs bs ds (frontOf (g .count) (g .sets)))
+    sound-board : SoundBoard (typedLayout (frontOf (r .count) (r .sizes)) (frontOf (r .count) (r .writable)) cs fs) (lent vs bs ls ds (frontOf (g .count) (g .sets)))
     sound-board = rw groups-same (record {
       variables = record {
         few = rw (← sizes-are, sizes-count) few-records;
@@ -152,6 +152,7 @@ module _ (count : ℕ) (ws ss ks cs fs : List ℕ) (g : Groups) (vs bs ds : List
       };
       sizes = rw (← sizes-are) (sizes-usable (recordsOf r) (sound .variables));
       curves = record { usable = sound .curves; exact = sound .blocks };
+      lengths = record { fit = sound .lengths };
       sums = record { exact = sound .sums };
       functions = sound .functions;
       groups = R.groups-most (length (recordsOf r)) (groupsOf g) (sound .groups);
@@ -167,7 +168,7 @@ module _ (count : ℕ) (ws ss ks cs fs : List ℕ) (g : Groups) (vs bs ds : List
     }
 
     -- all that the work of a packet leans on
-    board-ready : BoardReady r cs fs g vs bs ds
+    board-ready : BoardReady r cs fs g vs bs ls ds
     board-ready = record {
       usable-is = is-usable;
       sizes-inside = within-sizes;
@@ -180,5 +181,5 @@ module _ (count : ℕ) (ws ss ks cs fs : List ℕ) (g : Groups) (vs bs ds : List
       sound-types = types-sound;
     }
 
-  pub board-tested : u ≡ usable T (held (layout T) (lent vs bs ds (groupsOf g))) → length ws ≡ 64 → length ss ≡ 64 → length (g .sets) ≡ 5 → Tested u r cs fs g vs bs ds
+  pub board-tested : u ≡ usable T (held (layout T) (lent vs bs ls ds (groupsOf g))) → length ws ≡ 64 → length ss ≡ 64 → length (g .sets) ≡ 5 → Tested u r cs fs g vs bs ls ds
   board-tested checked types sizes places = record { is = checked; ready = λ v. board-ready checked v types sizes places }

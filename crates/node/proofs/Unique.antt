@@ -18,18 +18,18 @@ use Rattle.node.specs.declared.Done.{Done}
 use Rattle.node.proofs.Tables.{table-same}
 
 -- any two results that it allows are equal, with all that they leave
-pub unique : (x : PacketLeft) (d d′ : Done) (gs gs′ r r′ vs vs′ bs bs′ ds ds′ : List ℕ) → packetLeft d gs r vs bs ds ≡ x → packetLeft d′ gs′ r′ vs′ bs′ ds′ ≡ x
-    → (d ≡ d′) × (gs ≡ gs′) × (r ≡ r′) × (vs ≡ vs′) × (bs ≡ bs′) × (ds ≡ ds′)
-unique x d d′ gs gs′ r r′ vs vs′ bs bs′ ds ds′ h k =
-    let q : packetLeft d gs r vs bs ds ≡ packetLeft d′ gs′ r′ vs′ bs′ ds′ = h ∙ sym k in
-    (λ i. record { outcome = q i .outcome; count = q i .groups .count }, ap (λ y. y .groups .sets) q, ap (λ y. y .reply) q, ap (λ y. y .values) q, ap (λ y. y .blocks) q, ap (λ y. y .sums) q)
+pub unique : (x : PacketLeft) (d d′ : Done) (gs gs′ r r′ vs vs′ bs bs′ ls ls′ ds ds′ : List ℕ) → packetLeft d gs r vs bs ls ds ≡ x → packetLeft d′ gs′ r′ vs′ bs′ ls′ ds′ ≡ x
+    → (d ≡ d′) × (gs ≡ gs′) × (r ≡ r′) × (vs ≡ vs′) × (bs ≡ bs′) × (ls ≡ ls′) × (ds ≡ ds′)
+unique x d d′ gs gs′ r r′ vs vs′ bs bs′ ls ls′ ds ds′ h k =
+    let q : packetLeft d gs r vs bs ls ds ≡ packetLeft d′ gs′ r′ vs′ bs′ ls′ ds′ = h ∙ sym k in
+    (λ i. record { outcome = q i .outcome; count = q i .groups .count }, ap (λ y. y .groups .sets) q, ap (λ y. y .reply) q, ap (λ y. y .values) q, ap (λ y. y .blocks) q, ap (λ y. y .lengths) q, ap (λ y. y .sums) q)
 
--- a refused packet leaves the reply buffer, both stores, the sums and the group table as they were
-pub refused-keeps : (t : Table) (a : Place) (busy : ℕ) (p : List ℕ) (g : Groups) (n : Refusal) (d : Done) (gs′ r r′ vs vs′ bs bs′ ds ds′ : List ℕ) → length (g .sets) ≡ 5
-    → d .outcome ≡ O.Refused n → packetLeft d gs′ r′ vs′ bs′ ds′ ≡ packetLeftOf (packet t a busy (length r) p (held (layout t) (lent vs bs ds (groupsOf g)))) r g
-    → (r′ ≡ r) × (vs′ ≡ vs) × (bs′ ≡ bs) × (ds′ ≡ ds) × (groupsBy (d .count) gs′ ≡ g)
-refused-keeps t a busy p g n d gs′ r r′ vs vs′ bs bs′ ds ds′ five e h =
-    let s : State = held (layout t) (lent vs bs ds (groupsOf g)) in
+-- a refused packet leaves the reply buffer, both stores, the lengths, the sums and the group table as they were
+pub refused-keeps : (t : Table) (a : Place) (busy : ℕ) (p : List ℕ) (g : Groups) (n : Refusal) (d : Done) (gs′ r r′ vs vs′ bs bs′ ls ls′ ds ds′ : List ℕ) → length (g .sets) ≡ 5
+    → d .outcome ≡ O.Refused n → packetLeft d gs′ r′ vs′ bs′ ls′ ds′ ≡ packetLeftOf (packet t a busy (length r) p (held (layout t) (lent vs bs ls ds (groupsOf g)))) r g
+    → (r′ ≡ r) × (vs′ ≡ vs) × (bs′ ≡ bs) × (ls′ ≡ ls) × (ds′ ≡ ds) × (groupsBy (d .count) gs′ ≡ g)
+refused-keeps t a busy p g n d gs′ r r′ vs vs′ bs bs′ ls ls′ ds ds′ five e h =
+    let s : State = held (layout t) (lent vs bs ls ds (groupsOf g)) in
     let x : Result = packet t a busy (length r) p s in
     let o : x .ending ≡ Ending.refused n = outcome-refused (x .ending) n (sym (ap (λ y. y .outcome) h) ∙ e) in
     let k : x .state ≡ s = refusal-keeps t a (arrives busy (length r) p) s n o in
@@ -38,6 +38,7 @@ refused-keeps t a busy p g n d gs′ r r′ vs vs′ bs bs′ ds ds′ five e h 
       ap (λ y. y .reply) z,
       ap (λ y. y .values) z ∙ join-cut (layout t .sizes) vs,
       ap (λ y. y .blocks) z ∙ join-cut (blockSizes (layout t .curves)) bs,
+      ap (λ y. y .lengths) z,
       ap (λ y. y .sums) z ∙ join-cut (sumSizes (layout t .curves)) ds,
       ap (λ y. y .groups) z ∙ sym (table-same g five),
     )

@@ -37,6 +37,7 @@ pub record PacketLeft : Type 0 where
   pub reply : List ℕ
   pub values : List ℕ
   pub blocks : List ℕ
+  pub lengths : List ℕ
   pub sums : List ℕ
 
 -- as the definition has it, from the reply buffer and the group table at the call ..
@@ -47,12 +48,13 @@ packetLeftOf x r g = record {
   reply = shown (x .ending) r;
   values = join (x .state .values);
   blocks = join (x .state .blocks);
+  lengths = x .state .lengths;
   sums = join (x .state .sums);
 }
 
 -- .. and as the code has it
-abbrev pub packetLeft : Done → (sets reply values blocks sums : List ℕ) → PacketLeft
-packetLeft d gs r vs bs ds = record { outcome = d .outcome; groups = groupsBy (d .count) gs; reply = r; values = vs; blocks = bs; sums = ds }
+abbrev pub packetLeft : Done → (sets reply values blocks lengths sums : List ℕ) → PacketLeft
+packetLeft d gs r vs bs ls ds = record { outcome = d .outcome; groups = groupsBy (d .count) gs; reply = r; values = vs; blocks = bs; lengths = ls; sums = ds }
 
 -- for the functions below the entry ---------------------------------------------------------------------------------------
 -- what comes of a packet that yields no message
@@ -100,17 +102,17 @@ abbrev pub frontOf : ℕ → List ℕ → List ℕ
 frontOf n xs = midOf 0 (n - 0) xs
 
 -- a usable board, whose columns and places can be lent by their fronts
-pub record BoardReady (r : Records) (cs fs : List ℕ) (g : Groups) (vs bs ds : List ℕ) : Type 0 where
-  pub usable-is : usable (tableOf r cs fs) (held (layout (tableOf r cs fs)) (lent vs bs ds (groupsOf g))) ≡ true
+pub record BoardReady (r : Records) (cs fs : List ℕ) (g : Groups) (vs bs ls ds : List ℕ) : Type 0 where
+  pub usable-is : usable (tableOf r cs fs) (held (layout (tableOf r cs fs)) (lent vs bs ls ds (groupsOf g))) ≡ true
   pub sizes-inside : r .count ≤ length (r .sizes)
   pub types-inside : r .count ≤ length (r .writable)
   pub sets-inside : g .count ≤ length (g .sets)
   pub layout-is : typedLayout (frontOf (r .count) (r .sizes)) (frontOf (r .count) (r .writable)) cs fs ≡ layout (tableOf r cs fs)
   pub groups-are : frontOf (g .count) (g .sets) ≡ groupsOf g
-  pub sound : SoundBoard (typedLayout (frontOf (r .count) (r .sizes)) (frontOf (r .count) (r .writable)) cs fs) (lent vs bs ds (frontOf (g .count) (g .sets)))
+  pub sound : SoundBoard (typedLayout (frontOf (r .count) (r .sizes)) (frontOf (r .count) (r .writable)) cs fs) (lent vs bs ls ds (frontOf (g .count) (g .sets)))
   pub sound-types : SoundTypes (frontOf (r .count) (r .writable))
 
 -- what is known of a board that was tested
-pub record Tested (u : Bool) (r : Records) (cs fs : List ℕ) (g : Groups) (vs bs ds : List ℕ) : Type 0 where
-  pub is : u ≡ usable (tableOf r cs fs) (held (layout (tableOf r cs fs)) (lent vs bs ds (groupsOf g)))
-  pub ready : u ≡ true → BoardReady r cs fs g vs bs ds
+pub record Tested (u : Bool) (r : Records) (cs fs : List ℕ) (g : Groups) (vs bs ls ds : List ℕ) : Type 0 where
+  pub is : u ≡ usable (tableOf r cs fs) (held (layout (tableOf r cs fs)) (lent vs bs ls ds (groupsOf g)))
+  pub ready : u ≡ true → BoardReady r cs fs g vs bs ls ds

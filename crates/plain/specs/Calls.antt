@@ -24,13 +24,14 @@ pub record PlainPacketLeft : Type 0 where
   pub reply : List ℕ
   pub values : List ℕ
   pub blocks : List ℕ
+  pub lengths : List ℕ
   pub sums : List ℕ
 
-abbrev pub plainPacketLeft : PlainOutcome → Groups → (reply values blocks sums : List ℕ) → PlainPacketLeft
-plainPacketLeft o g r vs bs ds = record { outcome = o; groups = g; reply = r; values = vs; blocks = bs; sums = ds }
+abbrev pub plainPacketLeft : PlainOutcome → Groups → (reply values blocks lengths sums : List ℕ) → PlainPacketLeft
+plainPacketLeft o g r vs bs ls ds = record { outcome = o; groups = g; reply = r; values = vs; blocks = bs; lengths = ls; sums = ds }
 
 abbrev pub plainPacketLeftOf : PacketLeft → PlainPacketLeft
-plainPacketLeftOf x = plainPacketLeft (plainOutcomeOf (x .outcome)) (x .groups) (x .reply) (x .values) (x .blocks) (x .sums)
+plainPacketLeftOf x = plainPacketLeft (plainOutcomeOf (x .outcome)) (x .groups) (x .reply) (x .values) (x .blocks) (x .lengths) (x .sums)
 
 abbrev pub packetOf : Lending → (own multicast busy : ℕ) → (request reply : List ℕ) → PlainPacketLeft
 packetOf x own multicast busy request reply =
@@ -51,7 +52,7 @@ abbrev pub resultOf : Lending → ℕ → (due failed : Bool) → (error : ℕ) 
 resultOf x f due failed error output reply =
     plainResultLeftOf (resultLeftOf (functionResult (tableIn x) (length reply) (function f) due (ranOf (ranFrom failed error) output) (heldIn x) .ending) reply)
 
--- a board store, a fresh board and number to bytes leave 0 or the refusal's number, and the bytes that were lent to be written
+-- a board store and number to bytes leave 0 or the refusal's number, and the bytes that were lent to be written
 pub record PlainBytesLeft : Type 0 where
   pub number : ℕ
   pub bytes : List ℕ
@@ -65,10 +66,19 @@ plainStoreLeftOf x = plainBytesLeft (storedNumber (x .stored)) (x .values)
 abbrev pub storeOf : Lending → ℕ → (bytes : List ℕ) → PlainBytesLeft
 storeOf x i bytes = plainStoreLeftOf (storeLeftOf (boardStore (tableIn x) (variable i) bytes (heldIn x)))
 
-abbrev pub plainFreshLeftOf : FreshLeft → PlainBytesLeft
-plainFreshLeftOf x = plainBytesLeft (storedNumber (x .stored)) (x .sums)
+-- a fresh board leaves such a number, the lengths and the sums
+pub record PlainFreshLeft : Type 0 where
+  pub number : ℕ
+  pub lengths : List ℕ
+  pub sums : List ℕ
 
-abbrev pub freshOf : Lending → PlainBytesLeft
+abbrev pub plainFreshLeft : ℕ → (lengths sums : List ℕ) → PlainFreshLeft
+plainFreshLeft n ls ds = record { number = n; lengths = ls; sums = ds }
+
+abbrev pub plainFreshLeftOf : FreshLeft → PlainFreshLeft
+plainFreshLeftOf x = plainFreshLeft (storedNumber (x .stored)) (x .lengths) (x .sums)
+
+abbrev pub freshOf : Lending → PlainFreshLeft
 freshOf x = plainFreshLeftOf (freshLeftOf (freshBoard (tableIn x) (heldIn x)))
 
 abbrev pub plainWritingLeftOf : WritingLeft → PlainBytesLeft

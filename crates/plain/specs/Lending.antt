@@ -7,7 +7,7 @@ use Rattle.bsmp.specs.declared.Variable.{Variable}
 use Rattle.records.specs.Lending.{curvesOf, functionsOf, groupsOf, lent}
 use Rattle.records.specs.declared.Groups.{Groups}
 
--- the variable records themselves, however many; curves and functions as flat numbers; the group table, both stores and the sums
+-- the variable records themselves, however many; curves and functions as flat numbers; the group table, both stores, the lengths and the sums
 pub record Lending : Type 0 where
   pub variables : List Variable
   pub curves : List ℕ
@@ -15,17 +15,18 @@ pub record Lending : Type 0 where
   pub groups : Groups
   pub values : List ℕ
   pub blocks : List ℕ
+  pub lengths : List ℕ
   pub sums : List ℕ
 
-abbrev pub lending : List Variable → (curves functions : List ℕ) → Groups → (values blocks sums : List ℕ) → Lending
-lending vs cs fs g values blocks sums =
-    record { variables = vs; curves = cs; functions = fs; groups = g; values = values; blocks = blocks; sums = sums }
+abbrev pub lending : List Variable → (curves functions : List ℕ) → Groups → (values blocks lengths sums : List ℕ) → Lending
+lending vs cs fs g values blocks lengths sums =
+    record { variables = vs; curves = cs; functions = fs; groups = g; values = values; blocks = blocks; lengths = lengths; sums = sums }
 
 abbrev pub tableIn : Lending → Table
 tableIn x = record { variables = x .variables; curves = curvesOf (x .curves); functions = functionsOf (x .functions) }
 
 abbrev pub lentIn : Lending → Lent
-lentIn x = lent (x .values) (x .blocks) (x .sums) (groupsOf (x .groups))
+lentIn x = lent (x .values) (x .blocks) (x .lengths) (x .sums) (groupsOf (x .groups))
 
 abbrev pub heldIn : Lending → State
 heldIn x = held (layout (tableIn x)) (lentIn x)

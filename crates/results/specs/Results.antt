@@ -51,13 +51,14 @@ storeLeft a vs = record { stored = a; values = vs }
 abbrev pub storeLeftOf : Result → StoreLeft
 storeLeftOf r = storeLeft (storedOf (r .ending)) (join (r .state .values))
 
--- a fresh board leaves its answer and the sums
+-- a fresh board leaves its answer, the lengths and the sums
 pub record FreshLeft : Type 0 where
   pub stored : Stored
+  pub lengths : List ℕ
   pub sums : List ℕ
 
-abbrev pub freshLeft : Stored → List ℕ → FreshLeft
-freshLeft a ds = record { stored = a; sums = ds }
+abbrev pub freshLeft : Stored → (lengths sums : List ℕ) → FreshLeft
+freshLeft a ls ds = record { stored = a; lengths = ls; sums = ds }
 
 abbrev pub freshLeftOf : Result → FreshLeft
-freshLeftOf r = freshLeft (storedOf (r .ending)) (join (r .state .sums))
+freshLeftOf r = freshLeft (storedOf (r .ending)) (r .state .lengths) (join (r .state .sums))

@@ -49,11 +49,11 @@ module _ (l : Layout) (m : List ℕ) (k : Command) (v : Check) (x : Lent) where
   pub carried-pass : (g : Regroup) (y : Lent) → Judged l (x .groups) m k v → v ≡ Pass
       → ChangedBy l x (line l (x .groups) (midOf 3 (length m - 3) m) k .change) g y → CarriedOut l m v x g y
   unfolding stateAfter
-  carried-pass g y j e h = record { leaves = rw e (ChangedBy.leaves (rw (j .command, mid-rest 3 m) at h)) }
+  carried-pass g y j e h = record { leaves = rw e (ChangedBy.leaves (rw (j .command, mid-rest 3 m) at h)); fit = h .fit }
 
-  pub carried-fail : (e : WireError) → v ≡ Fail e → CarriedOut l m v x Keep x
+  pub carried-fail : (e : WireError) → SoundBoard l x → v ≡ Fail e → CarriedOut l m v x Keep x
   unfolding stateAfter
-  carried-fail e h = record { leaves = rw h (all-kept l x) }
+  carried-fail e z h = record { leaves = rw h (all-kept l x); fit = z .lengths }
 
 -- what is said to it, where an answer is due
 module _ (l : Layout) (gs m : List ℕ) (v : Check) (s : State) (r : List ℕ) (at : ℕ) (t : Spoken) where
@@ -81,12 +81,14 @@ said-alike l (Fail x) s gs = refl
 said-alike l Pass s gs = spoken-alike (l .answer) s gs
 
 -- the board is as sound after a change of its stores
-pub still-sound : (l : Layout) (vs bs ds gs vs′ bs′ ds′ : List ℕ) → SoundBoard l (lent vs bs ds gs) → length vs′ ≡ length vs → length bs′ ≡ length bs
-    → length ds′ ≡ length ds → SoundBoard l (lent vs′ bs′ ds′ gs)
-still-sound l vs bs ds gs vs′ bs′ ds′ h e f d = record {
+pub still-sound : (l : Layout) (vs bs ls ds gs vs′ bs′ ls′ ds′ m : List ℕ) (v : Check) (g : Regroup) → SoundBoard l (lent vs bs ls ds gs)
+    → length vs′ ≡ length vs → length bs′ ≡ length bs → length ds′ ≡ length ds → CarriedOut l m v (lent vs bs ls ds gs) g (lent vs′ bs′ ls′ ds′ gs)
+    → SoundBoard l (lent vs′ bs′ ls′ ds′ gs)
+still-sound l vs bs ls ds gs vs′ bs′ ls′ ds′ m v g h e f d w = record {
   variables = sound-kept (l .sizes) vs vs′ (h .variables) e;
   sizes = h .sizes;
   curves = record { usable = h .curves .usable; exact = f ∙ h .curves .exact };
+  lengths = w .fit;
   sums = record { exact = d ∙ h .sums .exact };
   functions = h .functions;
   groups = h .groups;

@@ -91,4 +91,4 @@ module _ (ns ws cs fs : List ℕ) (busy : ℕ) (m : List ℕ) (x : Lent) (k : Co
   }
 
 pub sound-any : (ns cs fs : List ℕ) (w w′ : ℕ) (x : Lent) → SoundBoard (lentLayout ns w cs fs) x → SoundBoard (lentLayout ns w′ cs fs) x
-sound-any ns cs fs w w′ x h = record { variables = h .variables; sizes = h .sizes; curves = h .curves; sums = h .sums; functions = h .functions; groups = h .groups }
+sound-any ns cs fs w w′ x h = record { variables = h .variables; sizes = h .sizes; curves = h .curves; lengths = h .lengths; sums = h .sums; functions = h .functions; groups = h .groups }

@@ -15,6 +15,7 @@ use Rattle.bsmp.specs.declared.Command.the-variants.{MaskVariable, MaskGroup, W
 use Rattle.bsmp.specs.declared.Check.{Check}
 use Rattle.bsmp.specs.declared.Check.the-variants.{Pass}
 use Rattle.records.specs.Lending.{writableMarks}
+use Rattle.curves.specs.Fits.{SoundLengths}
 use Rattle.judging.specs.Judging.{lentLayout, Judgement}
 use Rattle.changes.specs.Changes.{LeftAs}
 use Rattle.changes.specs.declared.Regroup.{Regroup}
@@ -64,9 +65,10 @@ pub record Judged (l : Layout) (gs m : List ℕ) (k : Command) (v : Check) : Typ
   pub command : k ≡ commandOf (byteAt m 0)
   pub judgement : Judgement l gs m v
 
--- a message carried out: x was lent, y is left of it, and g becomes of the made groups
+-- a message carried out: x was lent, y is left of it, with lengths that still fit, and g becomes of the made groups
 pub record CarriedOut (l : Layout) (m : List ℕ) (v : Check) (x : Lent) (g : Regroup) (y : Lent) : Type 0 where
   pub leaves : LeftAs l (stateAfter (asked l (x .groups) m) v (held l x)) g y
+  pub fit : SoundLengths (l .curves) (y .lengths)
 
 -- what is said to a command, and to a message, where no answer is due, on any board
 pub record Quiet (k : Command) (m : List ℕ) (s : Spoken) : Type 0 where
