@@ -20,7 +20,7 @@ use Rattle.copies.proofs.Put.{put-back, put-put, mid-rest, length-part}
 use Rattle.lists.proofs.Pieces.{value-part}
 use Rattle.lists.proofs.Blocks.{cut-fill}
 use Rattle.parts.specs.Parts.{PayloadAt}
-use Rattle.records.specs.Lending.{curveBlocks, curveBytes, startOf}
+use Rattle.records.specs.Lending.{curveBytes, startOf}
 use Rattle.records.specs.declared.Start.{Start}
 use Rattle.records.proofs.Sound.{curves-small, blocks-small, curve-size}
 use Rattle.records.proofs.Blocks.{block-count, block-at, block-size, block-inside, block-room}
@@ -104,15 +104,15 @@ module _ (cs : List Curve) (ns p : List ℕ) (b : Block) (z : SoundLengths cs ns
   pub length-fits : Fits w64 (getD ns (b .place) 0)
   length-fits = record { fits = omega (arith, length-own, w .small) }
 
-  pub told-room : (at : ℕ) (r r₁ : List ℕ) → at + 4099 ≤ length r → length r₁ ≡ length r → at + 3 + getD ns (b .place) 0 ≤ length r₁
-  told-room at r r₁ o e = omega (arith, length-own, w .small)
+  pub answer-room : (at : ℕ) (r r₁ : List ℕ) → at + 4099 ≤ length r → length r₁ ≡ length r → at + 3 + getD ns (b .place) 0 ≤ length r₁
+  answer-room at r r₁ o e = omega (arith, length-own, w .small)
 
-  pub told-count : Fits w64 (3 + getD ns (b .place) 0)
-  told-count = record { fits = omega (arith, length-own, w .small) }
+  pub answer-count : Fits w64 (3 + getD ns (b .place) 0)
+  answer-count = record { fits = omega (arith, length-own, w .small) }
 
   module _ (s : List ℕ) (y : SoundCurves cs s) where
-    pub told-inside : b .at + getD ns (b .place) 0 ≤ length s
-    told-inside = omega (arith, length-own, y .exact, w .inside)
+    pub answer-inside : b .at + getD ns (b .place) 0 ≤ length s
+    answer-inside = omega (arith, length-own, y .exact, w .inside)
 
     -- the payload, and what the block holds behind it
     pub block-answered : (at : ℕ) (r r₁ r₂ : List ℕ) → BlockRead cs p → at + 4099 ≤ length r → r₁ ≡ put r at (part p 0 3)
@@ -123,7 +123,7 @@ module _ (cs : List Curve) (ns p : List ℕ) (b : Block) (z : SoundLengths cs ns
         let v : namedContent cs s ns p ≡ part s (b .at) n =
         ap₂ take (ap (λ (k : ℕ). getD ns k 0) (sym (w .place))) (value-part (blockSizes cs) s (placeOf cs p) (b .at) (w .below) (w .at) ∙ ap (part s (b .at)) (w .own))
         ∙ take-take n (namedCurve cs p .size) (drop (b .at) s) length-own in
-        let l : length (part s (b .at) n) ≡ n = length-part s (b .at) n told-inside in
+        let l : length (part s (b .at) n) ≡ n = length-part s (b .at) n answer-inside in
         let a : take 3 p ≡ p = take-all 3 p (omega arith) in
         rw v (record {
           count = sym (length-append p (part s (b .at) n) ∙ omega arith);

@@ -6,13 +6,13 @@ use Prim.Native.Nat.{ℕ, zero, suc, _+_, _-_, _*_, _≤_, _<_}
 use native.Mathlib.Nat.{add-sub-cancel-left}
 use native.Mathlib.Omega.{arith}
 use native.Mathlib.Numerals.{add-one}
-use lib.ListN.{length, take, drop, set, getD, replicate, length-append, length-take, length-drop, length-replicate, replicate-append-replicate, take-append-drop, drop-of-length-le}
+use lib.ListN.{length, take, drop, set, getD, replicate, length-append, length-take, length-drop, length-replicate, replicate-append-replicate, drop-of-length-le}
 use lib.Seq.{set-at, take-at, drop-at, drop-drop, drop-cons, take-all}
 use mir.Syntax.{w16, w64}
 use mir.Val.{Fits}
 use borrow.Author.Tests.{le-leb}
 use borrow.Rule.Slice.PartMut.{midOf, putMid}
-use Rattle.bsmp.specs.Base.{sum, every, within}
+use Rattle.bsmp.specs.Base.{every, within}
 use Rattle.bsmp.specs.Board.{blankCurve, blockSizes, fitting, usableCurve, curveRules, usableCurves}
 use Rattle.bsmp.specs.declared.Curve.{Curve}
 use Rattle.bsmp.proofs.Bools.{and-true, all-at}

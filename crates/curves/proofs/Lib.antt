@@ -4,4 +4,5 @@ pub mod BlockAt
 pub mod Listing
 pub mod Passes
 pub mod Contents
+pub mod Summing
 pub mod Sums

@@ -1,12 +1,12 @@
 -- The sums: one put at its place, all of them worked out, and one told. Assumes nothing.
 use mathlib.Core.Path.{_≡_, refl, sym, ap, ap₂, _∙_}
 use mathlib.Core.Bool.{true}
-use mathlib.Core.List.{List, [], _∷_, _++_, map, append-assoc, append-nil, map-append}
+use mathlib.Core.List.{List, [], _∷_, _++_, map, append-assoc, append-nil}
 use Prim.Native.Nat.{ℕ, zero, suc, _+_, _-_, _*_, _≤_, _<_}
 use native.Mathlib.Nat.{zero-add}
 use native.Mathlib.Numerals.{add-one}
 use native.Mathlib.Omega.{arith}
-use lib.ListN.{length, take, drop, set, getD, length-take, length-drop, length-map, drop-of-length-le}
+use lib.ListN.{length, drop, set, getD, length-take, length-drop, length-map, drop-of-length-le}
 use lib.Seq.{drop-cons, set-at}
 use mir.Syntax.{w64}
 use mir.Val.{Fits}
@@ -15,18 +15,16 @@ use Rattle.md5.specs.Md5.{digest}
 use Rattle.md5.proofs.Digest.{length-digest}
 use Rattle.copies.specs.Put.{put, part}
 use Rattle.copies.proofs.Put.{put-back, length-part}
-use Rattle.bsmp.specs.Base.{join, upFrom, cut, byteAt}
-use Rattle.bsmp.specs.Board.{curve, blankCurve, blockSizes, blockPlace, sumSizes, usableCurves}
+use Rattle.bsmp.specs.Base.{upFrom, cut, byteAt}
+use Rattle.bsmp.specs.Board.{curve, blockSizes, sumSizes, usableCurves}
 use Rattle.bsmp.specs.Message.{curveAt}
 use Rattle.bsmp.specs.declared.Curve.{Curve}
 use Rattle.bsmp.specs.declared.CurveNumber.{CurveNumber}
 use Rattle.bsmp.proofs.Lists.{length-upFrom}
-use Rattle.bsmp.proofs.Store.{pieces, lengths-cut, curve-bytes, sum-bytes, sum-size, sum-start}
+use Rattle.bsmp.proofs.Store.{lengths-cut, sum-bytes, sum-size, sum-start}
 use Rattle.lists.proofs.Pieces.{value-part, cut-put}
-use Rattle.parts.specs.Parts.{curvesOnly, PayloadAt}
-use Rattle.records.specs.Lending.{curveBytes}
-use Rattle.records.proofs.Sound.{curves-most, curves-small}
-use Rattle.records.proofs.Blocks.{before-next, before-within, curve-start, curve-own, curve-inside}
+use Rattle.parts.specs.Parts.{PayloadAt}
+use Rattle.records.proofs.Sound.{curves-most}
 use Rattle.curves.specs.declared.Content.{Content}
 use Rattle.curves.specs.Fits.{SoundCurves, SoundLengths, SoundSums, CurveNamed, sumsIn, sumAt, SumNamed, covered, contentIn, ContentAt, freshSums}
 
@@ -75,13 +73,15 @@ module _ (cs : List Curve) (store lengths s₀ : List ℕ) where
   counted z = sym (length-map (sumsIn cs s₀) length) ∙ ap length (lengths-cut (sumSizes cs) s₀ (z .exact)) ∙ sixteens cs
 
   fresh-next : (i : ℕ) → freshSums cs store lengths (i + 1) ≡ freshSums cs store lengths i ++ digest (contentIn cs store lengths (curve i)) ∷ []
-  fresh-next i = rw (add-one i) (numbers-last (λ k. digest (contentIn cs store lengths (curve k))) 0 i ∙ ap (λ k. freshSums cs store lengths i ++ digest (contentIn cs store lengths (curve k)) ∷ []) (zero-add i))
+  fresh-next i =
+      let f : ℕ → List ℕ = λ k. digest (contentIn cs store lengths (curve k)) in
+      rw (add-one i) (numbers-last f 0 i ∙ ap (λ k. freshSums cs store lengths i ++ f k ∷ []) (zero-add i))
 
   pub renewing-start : SoundSums cs s₀ → Renewing 0 s₀
   renewing-start z = record { inside = omega arith; sound = z; sums = refl }
 
-  pub renewing-next : (n i : ℕ) (s s′ : List ℕ) → SoundSums cs s₀ → n ≡ length cs → i < n → length s′ ≡ length s → sumsIn cs s′ ≡ set (sumsIn cs s) i (digest (contentIn cs store lengths (curve i)))
-      → Renewing i s → Renewing (i + 1) s′
+  pub renewing-next : (n i : ℕ) (s s′ : List ℕ) → SoundSums cs s₀ → n ≡ length cs → i < n → length s′ ≡ length s
+      → sumsIn cs s′ ≡ set (sumsIn cs s) i (digest (contentIn cs store lengths (curve i))) → Renewing i s → Renewing (i + 1) s′
   renewing-next n i s s′ z m h l e q = record {
     inside = omega arith;
     sound = record { exact = l ∙ q .sound .exact };

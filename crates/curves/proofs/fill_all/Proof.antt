@@ -16,7 +16,8 @@ abbrev μ-loop : tie.MeasureT-loop
 cast-fill : tie.Need-cast-fill Inv-loop μ-loop
 cast-fill c =
     let l = c .before .before .before in
-    size-fits _ _ _ _ (l .curve-at .ensures) (l .before .loop-test .taken) (l .before .before .before .curve-count .ensures) (l .before .before .before .before .before .before .pre .0)
+    let k = l .before .before .before in
+    size-fits _ _ _ _ (l .curve-at .ensures) (l .before .loop-test .taken) (k .curve-count .ensures) (k .before .before .before .pre .0)
 
 pub fill-all-spec : {M : Type 1} → statement M
 fill-all-spec =

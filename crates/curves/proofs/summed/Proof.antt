@@ -3,7 +3,7 @@ use mathlib.Core.Logic.{⊎-elim}
 use Prim.Native.Nat.{_-_}
 use lib.ListN.{length}
 use borrow.Author.Needs.{needs}
-use Rattle.curves.proofs.Contents.{Summing, summing-start, whole-inside, next-fits, own-fits, own-inside, own-add, full-next, short-next, summing-end}
+use Rattle.curves.proofs.Summing.{Summing, summing-start, whole-inside, next-fits, own-fits, own-inside, own-add, full-next, short-next, summing-end}
 use Rattle.curves.proofs.summed.Statement.{statement}
 use Rattle.curves.proofs.summed.Tie as tie
 
