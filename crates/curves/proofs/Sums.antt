@@ -1,12 +1,12 @@
--- The sums: what a curve holds as a part of the store, a sum put at its place, all of them worked out, and one told. Assumes nothing.
+-- The sums: one put at its place, all of them worked out, and one told. Assumes nothing.
 use mathlib.Core.Path.{_≡_, refl, sym, ap, ap₂, _∙_}
 use mathlib.Core.Bool.{true}
-use mathlib.Core.List.{List, [], _∷_, _++_, map, append-assoc, append-nil, map-append}
+use mathlib.Core.List.{List, [], _∷_, _++_, map, append-assoc, append-nil}
 use Prim.Native.Nat.{ℕ, zero, suc, _+_, _-_, _*_, _≤_, _<_}
 use native.Mathlib.Nat.{zero-add}
 use native.Mathlib.Numerals.{add-one}
 use native.Mathlib.Omega.{arith}
-use lib.ListN.{length, take, drop, set, getD, length-take, length-drop, length-map, drop-of-length-le}
+use lib.ListN.{length, drop, set, getD, length-take, length-drop, length-map, drop-of-length-le}
 use lib.Seq.{drop-cons, set-at}
 use mir.Syntax.{w64}
 use mir.Val.{Fits}
@@ -15,44 +15,18 @@ use Rattle.md5.specs.Md5.{digest}
 use Rattle.md5.proofs.Digest.{length-digest}
 use Rattle.copies.specs.Put.{put, part}
 use Rattle.copies.proofs.Put.{put-back, length-part}
-use Rattle.bsmp.specs.Base.{join, upFrom, cut, byteAt}
-use Rattle.bsmp.specs.Board.{curve, blankCurve, blockSizes, blockPlace, sumSizes, usableCurves}
+use Rattle.bsmp.specs.Base.{upFrom, cut, byteAt}
+use Rattle.bsmp.specs.Board.{curve, blockSizes, sumSizes, usableCurves}
 use Rattle.bsmp.specs.Message.{curveAt}
 use Rattle.bsmp.specs.declared.Curve.{Curve}
 use Rattle.bsmp.specs.declared.CurveNumber.{CurveNumber}
 use Rattle.bsmp.proofs.Lists.{length-upFrom}
-use Rattle.bsmp.proofs.Store.{pieces, lengths-cut, curve-bytes, sum-bytes, sum-size, sum-start}
+use Rattle.bsmp.proofs.Store.{lengths-cut, sum-bytes, sum-size, sum-start}
 use Rattle.lists.proofs.Pieces.{value-part, cut-put}
-use Rattle.parts.specs.Parts.{curvesOnly, PayloadAt}
-use Rattle.records.specs.Lending.{curveBytes}
-use Rattle.records.proofs.Sound.{curves-most, curves-small}
-use Rattle.records.proofs.Blocks.{before-next, before-within, curve-start, curve-own, curve-inside}
+use Rattle.parts.specs.Parts.{PayloadAt}
+use Rattle.records.proofs.Sound.{curves-most}
 use Rattle.curves.specs.declared.Content.{Content}
-use Rattle.curves.specs.Fits.{SoundSums, CurveNamed, blocksIn, sumsIn, sumAt, SumNamed, contentIn, ContentAt, freshSums}
-
--- what a curve holds, as code works its place out: x is the curve's record, b the bytes of the curves before it
-module _ (cs : List Curve) (c : CurveNumber) (x : Curve) (b : ℕ) (u : usableCurves cs ≡ true) (h : c .0 < length cs) (e : x ≡ getD cs (c .0) blankCurve)
-    (q : b ≡ curveBytes (take (c .0) cs)) where
-  room : b + x .size * x .blocks ≤ curveBytes cs
-  room = before-within cs (length cs) (c .0) b x u (omega arith) h e q
-
-  pub content-mul : Fits w64 (x .size * x .blocks)
-  content-mul = record { fits = omega (arith, room, curves-small cs u) }
-
-  pub content-add : Fits w64 (b + x .size * x .blocks)
-  content-add = record { fits = omega (arith, room, curves-small cs u) }
-
-  pub content-at : ContentAt cs c (record { from = b; to = b + x .size * x .blocks })
-  unfolding part
-  content-at = record {
-    inside = rw (curve-bytes cs) room;
-    ordered = omega arith;
-    holds = λ store.
-        let n : b + x .size * x .blocks - b ≡ x .size * x .blocks = omega arith in
-        ap₂ (λ (k j : ℕ). take k (drop j store)) (n ∙ sym (curve-own cs (c .0) x h e)) (q ∙ sym (curve-start cs (c .0) x h e))
-        ∙ sym (pieces (blockSizes cs) store _ (x .blocks) (curve-inside cs (c .0) x h e))
-        ∙ ap (λ (y : Curve). join (take (y .blocks) (drop (blockPlace (curvesOnly cs) c 0) (blocksIn cs store)))) e;
-  }
+use Rattle.curves.specs.Fits.{SoundCurves, SoundLengths, SoundSums, CurveNamed, sumsIn, sumAt, SumNamed, covered, contentIn, ContentAt, freshSums}
 
 sixteens : (cs : List Curve) → length (sumSizes cs) ≡ length cs
 sixteens cs = length-map cs (λ (y : Curve). let n : ℕ = 16 in n)
@@ -71,15 +45,17 @@ module _ (cs : List Curve) (s : List ℕ) (c : CurveNumber) (z : SoundSums cs s)
   pub sum-room : (d : List ℕ) → length d ≡ 16 → length d ≤ length (midOf (16 * c .0) (length s - 16 * c .0) s)
   sum-room d n = simp (length-take, length-drop) (omega (arith, sum-inside))
 
-  pub sum-renewed : (store : List ℕ) (x : Content) (d ys : List ℕ) → ContentAt cs c x → d ≡ digest (midOf (x .from) (x .to - x .from) store) → ys ≡ put (midOf (16 * c .0) (length s - 16 * c .0) s) 0 d
-      → sumsIn cs (putMid (16 * c .0) (length s - 16 * c .0) s ys) ≡ set (sumsIn cs s) (c .0) (digest (contentIn cs store c))
+  pub sum-renewed : (store lengths : List ℕ) (x : Content) (d ys : List ℕ) → SoundCurves cs store → SoundLengths cs lengths → ContentAt cs c x
+      → d ≡ digest (covered (x .size) (midOf (x .first) (x .end - x .first) lengths) (midOf (x .from) (x .to - x .from) store))
+      → ys ≡ put (midOf (16 * c .0) (length s - 16 * c .0) s) 0 d
+      → sumsIn cs (putMid (16 * c .0) (length s - 16 * c .0) s ys) ≡ set (sumsIn cs s) (c .0) (digest (contentIn cs store lengths c))
   unfolding part
-  sum-renewed store x d ys w e f =
-      let m : d ≡ digest (contentIn cs store c) = e ∙ ap digest (w .holds store) in
-      let n : length d ≡ 16 = ap length m ∙ length-digest (contentIn cs store c) in
+  sum-renewed store lengths x d ys y v w e f =
+      let t : List ℕ = contentIn cs store lengths c in
+      let m : d ≡ digest t = e ∙ ap digest (w .holds store lengths y v) in
+      let n : length d ≡ 16 = ap length m ∙ length-digest t in
       ap (cut (sumSizes cs)) (put-back (16 * c .0) s d ys f (omega (arith, sum-inside)) ∙ ap₂ (put s) (sym (sum-start cs (c .0) (omega arith))) m)
-      ∙ cut-put (sumSizes cs) s (c .0) (digest (contentIn cs store c)) (rw (sixteens cs) h)
-      (length-digest (contentIn cs store c) ∙ sym (sum-size cs (c .0) h)) (omega (arith, z .exact))
+      ∙ cut-put (sumSizes cs) s (c .0) (digest t) (rw (sixteens cs) h) (length-digest t ∙ sym (sum-size cs (c .0) h)) (omega (arith, z .exact))
 
 -- one number more
 numbers-last : {A : Type 0} (f : ℕ → A) (k n : ℕ) → map f (upFrom k (suc n)) ≡ map f (upFrom k n) ++ f (k + n) ∷ []
@@ -87,29 +63,31 @@ numbers-last f k zero = ap (λ j. f j ∷ []) (omega arith)
 numbers-last f k (suc n) = ap (f k ∷_) (numbers-last f (suc k) n ∙ ap (λ j. map f (upFrom (suc k) n) ++ f j ∷ []) (omega arith))
 
 -- the walk over all curves: the first i sums are worked out, the others as they were
-module _ (cs : List Curve) (store s₀ : List ℕ) where
+module _ (cs : List Curve) (store lengths s₀ : List ℕ) where
   pub record Renewing (i : ℕ) (s : List ℕ) : Type 0 where
     pub inside : i ≤ length cs
     pub sound : SoundSums cs s
-    pub sums : sumsIn cs s ≡ freshSums cs store i ++ drop i (sumsIn cs s₀)
+    pub sums : sumsIn cs s ≡ freshSums cs store lengths i ++ drop i (sumsIn cs s₀)
 
   counted : SoundSums cs s₀ → length (sumsIn cs s₀) ≡ length cs
   counted z = sym (length-map (sumsIn cs s₀) length) ∙ ap length (lengths-cut (sumSizes cs) s₀ (z .exact)) ∙ sixteens cs
 
-  fresh-next : (i : ℕ) → freshSums cs store (i + 1) ≡ freshSums cs store i ++ digest (contentIn cs store (curve i)) ∷ []
-  fresh-next i = rw (add-one i) (numbers-last (λ k. digest (contentIn cs store (curve k))) 0 i ∙ ap (λ k. freshSums cs store i ++ digest (contentIn cs store (curve k)) ∷ []) (zero-add i))
+  fresh-next : (i : ℕ) → freshSums cs store lengths (i + 1) ≡ freshSums cs store lengths i ++ digest (contentIn cs store lengths (curve i)) ∷ []
+  fresh-next i =
+      let f : ℕ → List ℕ = λ k. digest (contentIn cs store lengths (curve k)) in
+      rw (add-one i) (numbers-last f 0 i ∙ ap (λ k. freshSums cs store lengths i ++ f k ∷ []) (zero-add i))
 
   pub renewing-start : SoundSums cs s₀ → Renewing 0 s₀
   renewing-start z = record { inside = omega arith; sound = z; sums = refl }
 
-  pub renewing-next : (n i : ℕ) (s s′ : List ℕ) → SoundSums cs s₀ → n ≡ length cs → i < n → length s′ ≡ length s → sumsIn cs s′ ≡ set (sumsIn cs s) i (digest (contentIn cs store (curve i)))
-      → Renewing i s → Renewing (i + 1) s′
+  pub renewing-next : (n i : ℕ) (s s′ : List ℕ) → SoundSums cs s₀ → n ≡ length cs → i < n → length s′ ≡ length s
+      → sumsIn cs s′ ≡ set (sumsIn cs s) i (digest (contentIn cs store lengths (curve i))) → Renewing i s → Renewing (i + 1) s′
   renewing-next n i s s′ z m h l e q = record {
     inside = omega arith;
     sound = record { exact = l ∙ q .sound .exact };
     sums =
-        let f : List (List ℕ) = freshSums cs store i in
-        let d : List ℕ = digest (contentIn cs store (curve i)) in
+        let f : List (List ℕ) = freshSums cs store lengths i in
+        let d : List ℕ = digest (contentIn cs store lengths (curve i)) in
         let o : List (List ℕ) = sumsIn cs s₀ in
         let w : length f ≡ i = length-map (upFrom 0 i) _ ∙ length-upFrom 0 i in
         let k : suc i ≡ i + 1 = omega arith in
@@ -120,11 +98,16 @@ module _ (cs : List Curve) (store s₀ : List ℕ) where
         ∙ ap (_++ drop (i + 1) o) (sym (fresh-next i));
   }
 
-  pub renewing-end : (n i : ℕ) (s : List ℕ) → SoundSums cs s₀ → n ≡ length cs → n ≤ i → Renewing i s → sumsIn cs s ≡ freshSums cs store (length cs)
+  pub renewing-end : (n i : ℕ) (s : List ℕ) → SoundSums cs s₀ → n ≡ length cs → n ≤ i → Renewing i s → sumsIn cs s ≡ freshSums cs store lengths (length cs)
   renewing-end n i s z e h q =
       let o : i ≡ length cs = omega (arith, q .inside) in
       let k : drop i (sumsIn cs s₀) ≡ [] = drop-of-length-le (sumsIn cs s₀) {i = i} (omega (arith, counted z)) in
-      q .sums ∙ ap (freshSums cs store i ++_) k ∙ append-nil (freshSums cs store i) ∙ ap (freshSums cs store) o
+      q .sums ∙ ap (freshSums cs store lengths i ++_) k ∙ append-nil (freshSums cs store lengths i) ∙ ap (freshSums cs store lengths) o
+
+-- those of full blocks, as a fresh board has them
+pub fresh-full : (cs : List Curve) (store lengths s : List ℕ) → lengths ≡ blockSizes cs → sumsIn cs s ≡ freshSums cs store lengths (length cs)
+    → sumsIn cs s ≡ freshSums cs store (blockSizes cs) (length cs)
+fresh-full cs store lengths s e h = h ∙ ap (λ (ns : List ℕ). freshSums cs store ns (length cs)) e
 
 -- a sum told
 module _ (s p : List ℕ) (c : CurveNumber) (e : c ≡ curveAt p 0) (h : SumNamed s p) where

@@ -2,7 +2,7 @@
 use borrow.Author.Needs.{needs}
 use native.Mathlib.Omega.{arith}
 use lib.ListN.{length-take, length-drop}
-use Rattle.curves.proofs.BlockAt.{block-filled}
+use Rattle.curves.proofs.BlockAt.{at-inside, carried-fits, block-filled, length-inside, length-set-there}
 use Rattle.curves.proofs.change.Statement.{statement}
 use Rattle.curves.proofs.change.Tie as tie
 
@@ -11,12 +11,17 @@ change-spec =
     tie.close
     (tie.spec
     (λ c κs. search needs)
-    (λ c. search needs)
-    (λ c. search needs)
+    (λ c. search (at-inside, needs))
+    (λ c. search (at-inside, needs))
     (λ c. search needs)
     (λ c. search needs)
     (λ c. search needs)
     (λ c. search needs)
     (λ c κs. simp (length-take, length-drop) (omega arith))
     (λ c. search needs)
-    (λ c. search (block-filled, needs)))
+    (λ c. search (carried-fits, needs))
+    (λ c. search (length-inside, needs))
+    (λ c. search (length-inside, needs))
+    (λ c. search needs)
+    (λ c. search needs)
+    (λ c. (search (block-filled, needs), search (length-set-there, needs))))

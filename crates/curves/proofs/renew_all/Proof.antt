@@ -7,10 +7,10 @@ use Rattle.curves.proofs.renew_all.Statement.{statement}
 use Rattle.curves.proofs.renew_all.Tie as tie
 
 abbrev Inv-loop : tie.InvT-loop
-Inv-loop curves blocks sums₀ n i₀ sums i = Renewing (curvesOf curves) blocks sums₀ i sums
+Inv-loop curves blocks lengths sums₀ n i₀ sums i = Renewing (curvesOf curves) blocks lengths sums₀ i sums
 
 abbrev μ-loop : tie.MeasureT-loop
-μ-loop curves blocks sums₀ n i₀ sums i = n - i
+μ-loop curves blocks lengths sums₀ n i₀ sums i = n - i
 
 pub renew-all-spec : {M : Type 1} → statement M
 renew-all-spec =

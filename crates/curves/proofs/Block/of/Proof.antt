@@ -1,6 +1,6 @@
 -- `Block::of` meets its contract. Assumes nothing.
 use borrow.Author.Needs.{needs}
-use Rattle.curves.proofs.BlockAt.{named-inside, placed-mul, placed-add, placed}
+use Rattle.curves.proofs.BlockAt.{named-inside, placed-mul, placed-add, placed-number, placed}
 use Rattle.curves.proofs.Block.of.Statement.{statement}
 use Rattle.curves.proofs.Block.of.Tie as tie
 
@@ -15,4 +15,5 @@ of-spec =
     (λ c κs. search needs)
     (λ c. search (placed-mul, needs))
     (λ c. search (placed-add, needs))
+    (λ c. search (placed-number, needs))
     (λ c. search (placed, needs)))
