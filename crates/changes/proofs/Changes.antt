@@ -1,5 +1,6 @@
 -- What a command that passed changes of what is lent, from what its change says of the part that it writes. Assumes nothing.
 use mathlib.Core.Path.{_≡_, refl, ap, ap₂}
+use mathlib.Core.Bool.{true}
 use mathlib.Core.List.{List, [], _∷_, _++_, map}
 use Prim.Native.Nat.{ℕ, _≤_, _<_}
 use native.Mathlib.Omega.{arith}
@@ -7,7 +8,7 @@ use lib.ListN.{length, drop, set, getD, length-drop}
 use Rattle.md5.specs.Md5.{digest}
 use Rattle.bsmp.specs.Base.{cut, byteAt, wordAt}
 use Rattle.bsmp.specs.Codes.{operationOf}
-use Rattle.bsmp.specs.Board.{Layout, State, blockSizes, sizeOf, members, withValues, withBlocks, withLengths, withSums, withGroups, contentsOf}
+use Rattle.bsmp.specs.Board.{Layout, State, blockSizes, fitting, sizeOf, members, withValues, withBlocks, withLengths, withSums, withGroups, contentsOf}
 use Rattle.bsmp.specs.Message.{nothing, edit, fill, renew, regroup, variableAt, groupAt, curveAt, line, edited, filled, after}
 use Rattle.bsmp.specs.Store.{Lent, held}
 use Rattle.bsmp.specs.declared.VariableNumber.{VariableNumber}
@@ -87,12 +88,12 @@ module _ (ns : List ℕ) (w : ℕ) (cs : List Curve) (fs : List Function) (gs p 
   make-needs x s e h = groups.make-below ns w cs fs gs p (as-command _ _ _ _ MakeGroup e h) (s .variables .few)
 
 -- a length set to as many bytes as a block write carries
-write-fit : (cs : List Curve) (p ls : List ℕ) → SoundLengths cs ls → BlockFits cs p → SoundLengths cs (set ls (placeOf cs p) (length (drop 3 p)))
+write-fit : (cs : List Curve) (p ls : List ℕ) → SoundLengths cs ls → BlockFits cs p → fitting (blockSizes cs) (set ls (placeOf cs p) (length (drop 3 p))) ≡ true
 write-fit cs p ls z h =
     let n : getD (blockSizes cs) (placeOf cs p) 0 ≡ namedCurve cs p .size = block-size cs (byteAt p 0) (wordAt p 1) (h .named .known) (h .named .below) in
     let a : 1 ≤ length (drop 3 p) = simp length-drop (omega (arith, h .some)) in
     let b : length (drop 3 p) ≤ getD (blockSizes cs) (placeOf cs p) 0 = simp length-drop (omega (arith, h .fits, n)) in
-    record { fit = lengths-set (blockSizes cs) ls (placeOf cs p) (length (drop 3 p)) (z .fit) a b }
+    lengths-set (blockSizes cs) ls (placeOf cs p) (length (drop 3 p)) (z .fit) a b
 
 -- what is then left of what is lent
 stays : (l : Layout) (s : State) (y : Lent) → held l y ≡ s → LeftAs l s Keep y
@@ -105,16 +106,16 @@ module _ (l : Layout) (x : Lent) (z : SoundBoard l x) where
   -- a change that leaves all as it was, one of the values alone, one of a block and its length, one of the sums, and one of the made groups
   kept : ChangedBy l x nothing Keep x
   unfolding after
-  kept = record { leaves = all-kept l x; fit = z .lengths }
+  kept = record { leaves = all-kept l x; fit = z .lengths .fit }
 
   values-edited : (op : Operation) (is : List VariableNumber) (ps : List (List ℕ)) (vs : List ℕ)
       → cut (l .sizes) vs ≡ edited op is ps (cut (l .sizes) (x .values)) → ChangedBy l x (edit op is ps) Keep (lentValues x vs)
   unfolding after
-  values-edited op is ps vs h = record { leaves = stays l _ (lentValues x vs) (ap (withValues (held l x)) h); fit = z .lengths }
+  values-edited op is ps vs h = record { leaves = stays l _ (lentValues x vs) (ap (withValues (held l x)) h); fit = z .lengths .fit }
 
   block-filled : (k : ℕ) (d bs ls : List ℕ)
       → blocksIn (l .curves) bs ≡ set (blocksIn (l .curves) (x .blocks)) k (filled d (getD (blocksIn (l .curves) (x .blocks)) k []))
-      → ls ≡ set (x .lengths) k (length d) → SoundLengths (l .curves) ls → ChangedBy l x (fill k d) Keep (lentBlocks x bs ls)
+      → ls ≡ set (x .lengths) k (length d) → fitting (blockSizes (l .curves)) ls ≡ true → ChangedBy l x (fill k d) Keep (lentBlocks x bs ls)
   unfolding after
   block-filled k d bs ls h n f =
       record { leaves = stays l _ (lentBlocks x bs ls) (ap₂ (λ ps ns. withLengths (withBlocks (held l x) ps) ns) h n); fit = f }
@@ -122,11 +123,11 @@ module _ (l : Layout) (x : Lent) (z : SoundBoard l x) where
   sum-renewed : (c : CurveNumber) (k n : ℕ) (ds : List ℕ)
       → sumsIn (l .curves) ds ≡ set (sumsIn (l .curves) (x .sums)) (c .0) (digest (contentsOf (held l x) k n)) → ChangedBy l x (renew c k n) Keep (lentSums x ds)
   unfolding after
-  sum-renewed c k n ds h = record { leaves = stays l _ (lentSums x ds) (ap (withSums (held l x)) h); fit = z .lengths }
+  sum-renewed c k n ds h = record { leaves = stays l _ (lentSums x ds) (ap (withSums (held l x)) h); fit = z .lengths .fit }
 
   groups-made : (r : Regroup) (gs : List ℕ) → regrouped r (x .groups) ≡ gs → (r ≡ Remove → 0 < length (x .groups)) → ChangedBy l x (regroup gs) r x
   unfolding after
-  groups-made r gs h k = record { leaves = record { holds = ap (withGroups (held l x)) h; some-removed = k }; fit = z .lengths }
+  groups-made r gs h k = record { leaves = record { holds = ap (withGroups (held l x)) h; some-removed = k }; fit = z .lengths .fit }
 
   module _ (p : List ℕ) (k : Command) where
     abbrev Changed : Regroup → Lent → Type 0

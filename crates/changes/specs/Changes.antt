@@ -1,13 +1,13 @@
 -- What a change leaves of what is lent, against the definition. Assumes nothing.
 use mathlib.Core.Path.{_≡_}
+use mathlib.Core.Bool.{true}
 use mathlib.Core.List.{List, [], _∷_, _++_}
 use Prim.Native.Nat.{ℕ, _<_}
 use lib.ListN.{length}
-use Rattle.bsmp.specs.Board.{Layout, State}
+use Rattle.bsmp.specs.Board.{Layout, State, blockSizes, fitting}
 use Rattle.bsmp.specs.Message.{Change, after}
 use Rattle.bsmp.specs.Store.{Lent, held}
 use Rattle.records.specs.Lending.{lentGroups}
-use Rattle.curves.specs.Fits.{SoundLengths}
 use Rattle.changes.specs.declared.Regroup.{Regroup}
 use Rattle.changes.specs.declared.Regroup.the-variants.{Keep, Make, Remove}
 
@@ -35,4 +35,4 @@ pub record LeftAs (l : Layout) (s : State) (r : Regroup) (y : Lent) : Type 0 whe
 -- a change of x, as the definition gives it; and each block's length still fits
 pub record ChangedBy (l : Layout) (x : Lent) (ch : Change) (r : Regroup) (y : Lent) : Type 0 where
   pub leaves : LeftAs l (after ch (held l x)) r y
-  pub fit : SoundLengths (l .curves) (y .lengths)
+  pub fit : fitting (blockSizes (l .curves)) (y .lengths) ≡ true

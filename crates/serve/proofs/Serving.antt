@@ -53,7 +53,7 @@ module _ (l : Layout) (m : List ℕ) (k : Command) (v : Check) (x : Lent) where
 
   pub carried-fail : (e : WireError) → SoundBoard l x → v ≡ Fail e → CarriedOut l m v x Keep x
   unfolding stateAfter
-  carried-fail e z h = record { leaves = rw h (all-kept l x); fit = z .lengths }
+  carried-fail e z h = record { leaves = rw h (all-kept l x); fit = z .lengths .fit }
 
 -- what is said to it, where an answer is due
 module _ (l : Layout) (gs m : List ℕ) (v : Check) (s : State) (r : List ℕ) (at : ℕ) (t : Spoken) where
@@ -88,7 +88,7 @@ still-sound l vs bs ls ds gs vs′ bs′ ls′ ds′ m v g h e f d w = record {
   variables = sound-kept (l .sizes) vs vs′ (h .variables) e;
   sizes = h .sizes;
   curves = record { usable = h .curves .usable; exact = f ∙ h .curves .exact };
-  lengths = w .fit;
+  lengths = record { fit = w .fit };
   sums = record { exact = d ∙ h .sums .exact };
   functions = h .functions;
   groups = h .groups;
