@@ -98,7 +98,7 @@ module _ (cs : List Curve) (ns p : List ℕ) (b : Block) (z : SoundLengths cs ns
   length-set-there = ap₂ (set ns) (w .place) (sym (length-drop 3 p))
 
   -- a block holds no more than its size
-  pub length-own : getD ns (b .place) 0 ≤ namedCurve cs p .size
+  length-own : getD ns (b .place) 0 ≤ namedCurve cs p .size
   length-own = rw (w .place, ← w .own) (fit-at (blockSizes cs) ns (placeOf cs p) (z .fit) (w .below) .1)
 
   pub length-fits : Fits w64 (getD ns (b .place) 0)

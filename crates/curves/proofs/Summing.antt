@@ -62,7 +62,7 @@ module _ (size : ℕ) (ns s b₀ : List ℕ) (p₀ : Progress) where
     whole-inside = omega (arith, q .place, g .whole, mul-le-mul-left size (q .inside))
 
     module _ (h : i < length ns) where
-      pub next-inside : at + size ≤ length s
+      next-inside : at + size ≤ length s
       next-inside =
           let o : size * (i + 1) ≤ size * length ns = mul-le-mul-left size (omega arith) in
           omega (arith, q .place, g .whole, o)
