@@ -9,6 +9,9 @@ fulfil-spec =
     tie.close
     (tie.spec
     (λ c κs. (search (still-sound, needs), search needs))
-    (λ c κs. (search (still-sound, needs), search needs))
-    (λ c. search needs) (λ c. search needs) (λ c. search needs) (λ c. search needs)
+    (λ c κs. let k = c .before .before .before .before .before .before .before .before .before .before .before .before .before in
+    let was = k .before .before .before .before .before .before .before .before .before .before .before .before .before .before .before .pre .0 in
+    let out = k .carry-out .ensures in
+    ((still-sound _ _ _ _ _ _ _ _ _ _ _ _ _ (was .0) (search needs) (search needs) (search needs) out, was .1), search needs))
+    (λ c. search needs) (λ c. search needs) (λ c. search needs) (λ c. search needs) (λ c. search needs)
     (λ c. search (fulfilled, needs)))
