@@ -27,7 +27,7 @@ struct act {
     uint64_t number;
     const uint8_t *bytes;
     size_t length;
-    uint64_t left; /* a digest of stores, sums and group table */
+    uint64_t left; /* a digest of stores, lengths, sums and group table */
 };
 
 struct whole_case {
@@ -41,6 +41,8 @@ struct whole_case {
     size_t value_starts, values_length;
     const uint8_t *blocks;
     size_t block_starts, blocks_length;
+    const uint16_t *lengths;
+    size_t length_count;
     const uint8_t *sums;
     size_t sum_starts, sums_length;
     struct bsmp_groups groups;
@@ -53,8 +55,9 @@ struct whole_case {
 
 /* Stores, which may be too long for a board, and a buffer, with some bytes behind each that must stay as they are. */
 enum { UNTOUCHED = 0x5C, BEHIND = 16, VALUES_ROOM = 2 * BSMP_MOST_VALUE_BYTES, BLOCKS_ROOM = 2 * BSMP_MOST_CURVE_BYTES };
-enum { SUMS_ROOM = 2 * BSMP_MOST_CURVES * BSMP_SUM_SIZE };
+enum { LENGTHS_ROOM = 2 * BSMP_MOST_BLOCKS, SUMS_ROOM = 2 * BSMP_MOST_CURVES * BSMP_SUM_SIZE };
 static uint8_t values[VALUES_ROOM + BEHIND], blocks[BLOCKS_ROOM + BEHIND], sums[SUMS_ROOM + BEHIND], buffer[BSMP_REPLY_ROOM + BEHIND];
+static uint16_t lengths[LENGTHS_ROOM + BEHIND];
 static struct bsmp_groups groups;
 static unsigned failed, calls;
 
@@ -65,8 +68,14 @@ static void check(bool good, const struct act *act, const char *wrong)
     failed++;
 }
 
-static bool untouched(const uint8_t *bytes, size_t from, size_t to)
+static size_t size_of_lengths(const struct whole_case *whole)
 {
+    return whole->length_count * sizeof lengths[0];
+}
+
+static bool untouched(const void *memory, size_t from, size_t to)
+{
+    const uint8_t *bytes = memory;
     while (from < to && bytes[from] == UNTOUCHED) from++;
     return from == to;
 }
@@ -77,11 +86,11 @@ static uint64_t mixed(uint64_t digest, const uint8_t *bytes, size_t length)
     return digest;
 }
 
-static uint64_t with_number(uint64_t digest, uint64_t number)
+static uint64_t with_number(uint64_t digest, uint64_t number, size_t size)
 {
     uint8_t bytes[8];
-    for (int i = 0; i < 8; i++) bytes[i] = (uint8_t)(number >> 8 * i);
-    return mixed(digest, bytes, sizeof bytes);
+    for (size_t i = 0; i < size; i++) bytes[i] = (uint8_t)(number >> 8 * i);
+    return mixed(digest, bytes, size);
 }
 
 static uint64_t left(const struct whole_case *whole)
@@ -89,13 +98,14 @@ static uint64_t left(const struct whole_case *whole)
     uint64_t digest = UINT64_C(0xCBF29CE484222325);
     digest = mixed(digest, values, whole->values_length);
     digest = mixed(digest, blocks, whole->blocks_length);
+    for (size_t i = 0; i < whole->length_count; i++) digest = with_number(digest, lengths[i], sizeof lengths[i]);
     digest = mixed(digest, sums, whole->sums_length);
-    digest = with_number(digest, groups.count);
-    for (int i = 0; i < BSMP_MOST_MADE_GROUPS; i++) digest = with_number(digest, groups.sets[i]);
+    digest = with_number(digest, groups.count, sizeof groups.count);
+    for (int i = 0; i < BSMP_MOST_MADE_GROUPS; i++) digest = with_number(digest, groups.sets[i], sizeof groups.sets[i]);
     return digest;
 }
 
-static void start_store(uint8_t *store, size_t room, const uint8_t *starts, size_t count, size_t length)
+static void start_store(void *store, size_t room, const void *starts, size_t count, size_t length)
 {
     memset(store, UNTOUCHED, room);
     memset(store, 0, length);
@@ -103,7 +113,7 @@ static void start_store(uint8_t *store, size_t room, const uint8_t *starts, size
 }
 
 #define RECORDS whole->variables, whole->variable_count, whole->curves, whole->curve_numbers, whole->functions, whole->function_numbers
-#define STORES values, whole->values_length, blocks, whole->blocks_length, sums, whole->sums_length
+#define STORES values, whole->values_length, blocks, whole->blocks_length, lengths, whole->length_count, sums, whole->sums_length
 
 /* What an entry gives, brought to one form. */
 struct came {
@@ -170,19 +180,21 @@ static void try_act(const struct whole_case *whole, const struct act *act)
     if (written > 0) check(memcmp(buffer, act->bytes, written) == 0, act, "other bytes");
     check(untouched(buffer, written, sizeof buffer), act, "the buffer was written beyond the bytes");
     check(untouched(values, whole->values_length, sizeof values) && untouched(blocks, whole->blocks_length, sizeof blocks) &&
-              untouched(sums, whole->sums_length, sizeof sums),
-          act, "something was written beyond a store or the sums");
+              untouched(lengths, size_of_lengths(whole), sizeof lengths) && untouched(sums, whole->sums_length, sizeof sums),
+          act, "something was written beyond a store, the lengths or the sums");
     check(left(whole) == act->left, act, "another state");
 }
 
 static void try_case(const struct whole_case *whole)
 {
-    if (whole->values_length > VALUES_ROOM || whole->blocks_length > BLOCKS_ROOM || whole->sums_length > SUMS_ROOM) {
-        check(false, whole->acts, "a store is too long for this program, or the sums are");
+    if (whole->values_length > VALUES_ROOM || whole->blocks_length > BLOCKS_ROOM || whole->length_count > LENGTHS_ROOM ||
+        whole->sums_length > SUMS_ROOM) {
+        check(false, whole->acts, "a store is too long for this program, or the lengths or sums are");
         return;
     }
     start_store(values, sizeof values, whole->values, whole->value_starts, whole->values_length);
     start_store(blocks, sizeof blocks, whole->blocks, whole->block_starts, whole->blocks_length);
+    start_store(lengths, sizeof lengths, whole->lengths, size_of_lengths(whole), size_of_lengths(whole));
     start_store(sums, sizeof sums, whole->sums, whole->sum_starts, whole->sums_length);
     groups = whole->groups;
     for (size_t i = 0; i < whole->act_count; i++) try_act(whole, &whole->acts[i]);

@@ -53,6 +53,7 @@ int main(int count, char **arguments)
         try_packets(way);
         try_tables(way);
         try_results_and_stores(way);
+        try_block_lengths(way);
         try_sums(way);
     }
     try_md5();

@@ -3,8 +3,8 @@
  *
  * Each call runs on a stack of its own that was painted before; the deepest byte that lost its paint says how far the call went.
  * The same call is also made to a function that returns at once. What that takes is the caller's: the arguments that it pushes,
- * and the return address. (On x86-64 a packet's 20 arguments and the place for the outcome are 21 words; six go in registers, 15
- * are pushed, which with the return address is 128 bytes.) The difference is what the library needs beyond that, with memcpy and
+ * and the return address. (On x86-64 a packet's 22 arguments and the place for the outcome are 23 words; six go in registers, 17
+ * are pushed, which with the return address is 144 bytes.) The difference is what the library needs beyond that, with memcpy and
  * memset. For x86-64, aarch64 and 32-bit ARM. */
 #include "bsmp.h"
 
@@ -18,19 +18,20 @@
 #define MOST_SUM_STACK 1280
 #endif
 
-/* ---- The board: 64 variables of 4,096 bytes, 8 curves of 65,536, 16 functions, five groups of all 64 ---- */
+/* ---- The board: 64 variables of 4,096 bytes, 8 curves of 65,536 in 16 full blocks, 16 functions, five groups of all 64 ---- */
 
 enum { SIGNED, UNSIGNED, SHORT_SIGNED, SHORT_UNSIGNED, LAST_VARIABLE = 63, LAST_SIZE = 66 };
-enum { READ_ONLY_CURVE = 0, LAST_CURVE = 7, LAST_FUNCTION = 15 };
+enum { READ_ONLY_CURVE = 0, LAST_CURVE = 7, BLOCKS = 2 * BSMP_MOST_CURVES, LAST_FUNCTION = 15 };
 
 static struct bsmp_variable variables[BSMP_MOST_VARIABLES];
 static struct bsmp_curve curves[BSMP_MOST_CURVES];
 static struct bsmp_function functions[BSMP_MOST_FUNCTIONS];
 static uint8_t values[BSMP_MOST_VALUE_BYTES];
 static uint8_t blocks[BSMP_MOST_CURVE_BYTES];
+static uint16_t lengths[BSMP_MOST_BLOCKS];
 static uint8_t sums[BSMP_MOST_CURVES * BSMP_SUM_SIZE];
 static struct bsmp_board board = {variables, BSMP_MOST_VARIABLES, curves, BSMP_MOST_CURVES, functions, BSMP_MOST_FUNCTIONS, 5, 1};
-static struct bsmp_state state = {values, sizeof values, blocks, sizeof blocks, sums, sizeof sums, {0, {0}}};
+static struct bsmp_state state = {values, sizeof values, blocks, sizeof blocks, lengths, BLOCKS, sums, sizeof sums, {0, {0}}};
 
 static uint8_t packet[BSMP_MOST_PACKET + 1];
 static size_t packet_length;
@@ -51,6 +52,22 @@ static void make_board(void)
     for (size_t i = 0; i < BSMP_MOST_CURVES; i++) curves[i] = (struct bsmp_curve){BSMP_WRITABLE, BSMP_MOST_BLOCK_SIZE, 2};
     curves[READ_ONLY_CURVE].writable = BSMP_READ_ONLY;
     for (size_t i = 0; i < BSMP_MOST_FUNCTIONS; i++) functions[i] = (struct bsmp_function){BSMP_MOST_INPUT, BSMP_MOST_OUTPUT};
+}
+
+/* Of so many blocks of this size, each full. */
+static void fill_lengths(size_t count, uint16_t size)
+{
+    state.length_count = count;
+    for (size_t i = 0; i < count; i++) lengths[i] = size;
+}
+
+static void make_one_curve(uint16_t size)
+{
+    curves[0].block_size = size;
+    curves[0].blocks = BSMP_MOST_CURVE_BYTES / size;
+    board.curve_count = 1;
+    fill_lengths(curves[0].blocks, size);
+    state.sums_length = BSMP_SUM_SIZE;
 }
 
 /* ---- A call ---- */
@@ -116,7 +133,7 @@ static const struct call *current;
 #define RECORDS \
     variables, board.variable_count, bsmp_node_curve_numbers(&board), 3 * board.curve_count, bsmp_node_function_numbers(&board), \
         2 * board.function_count
-#define STORES values, sizeof values, blocks, sizeof blocks, sums, state.sums_length
+#define STORES values, sizeof values, blocks, sizeof blocks, lengths, state.length_count, sums, state.sums_length
 
 static void call_packet(void)
 {
@@ -181,6 +198,8 @@ static void to_all(void) { add_to_packet(0, 0xFF - 5); }
 static void size_wrong(void) { add_to_packet(3, 1); }
 static void six_groups(void) { state.groups.count = 6; }
 static void no_variables(void) { board.variable_count = 0; }
+static void length_0(void) { lengths[state.length_count - 1] = 0; }
+static void length_too_few(void) { state.length_count--; }
 static void no_sums(void) { state.sums_length = 0; }
 static void no_address(void) { board.own = 0; }
 static void room_short(void) { room = BSMP_REPLY_ROOM - 1; }
@@ -188,18 +207,32 @@ static void packet_long(void) { packet_length = sizeof packet; }
 static void sum_wrong(void) { packet[packet_length - 1]++; }
 static void to_another(void) { add_to_packet(0, 1); }
 
+static void one_byte_short(void)
+{
+    for (size_t i = 0; i < state.length_count; i++) lengths[i]--;
+}
+
 /* All bytes in one curve, which is the largest that there can be. */
 static void one_curve(void)
 {
-    curves[0].blocks = BSMP_MOST_CURVE_BYTES / BSMP_MOST_BLOCK_SIZE;
-    board.curve_count = 1;
-    state.sums_length = BSMP_SUM_SIZE;
+    make_one_curve(BSMP_MOST_BLOCK_SIZE);
 }
 
 static void one_curve_to_all(void)
 {
     one_curve();
     to_all();
+}
+
+static void one_curve_short(void)
+{
+    one_curve();
+    one_byte_short();
+}
+
+static void most_blocks(void)
+{
+    make_one_curve(1);
 }
 
 /* ---- The calls ---- */
@@ -226,7 +259,10 @@ static const struct call packets[] = {
     {"30 make group", 0xE0, four_groups, 0x30, .rest = BSMP_MOST_VARIABLES},
     {"32 remove groups", 0xE0, .command = 0x32},
     {"40 read block", 0x41, NULL, 0x40, ON(LAST_CURVE, 0, 1)},
+    {"40 read block that isn't full", 0x41, one_byte_short, 0x40, ON(LAST_CURVE, 0, 1)},
+    {"40 read the last of the most blocks", 0x41, most_blocks, 0x40, ON(0, 0xFF, 0xFF)},
     {"41 write block", 0xE0, NULL, WHOLE_BLOCK},
+    {"41 write a byte of a block", 0xE0, NULL, 0x41, ON(LAST_CURVE, 0, 1), .rest = 1},
     {"50 run function", RUN, NULL, 0x50, ON(LAST_FUNCTION), .rest = BSMP_MOST_INPUT},
     {"0A to all", SILENT, to_all, 0x0A, ON(LAST_CURVE)},
     {"22 to all", SILENT, to_all, 0x22, ON(GROUP), .rest = BSMP_MOST_VALUE_BYTES},
@@ -244,6 +280,8 @@ static const struct call packets[] = {
     {"error E8", 0xE8, all_busy, 0x26, ON(GROUP, 'X'), .rest = BSMP_MOST_VALUE_BYTES},
     {"error E8 to a read", 0xE8, all_busy, 0x12, ON(GROUP)},
     {"refusal 1", REFUSED + 1, six_groups, WHOLE_BLOCK},
+    {"refusal 1 for a length", REFUSED + 1, length_0, WHOLE_BLOCK},
+    {"refusal 1 for a length too few", REFUSED + 1, length_too_few, WHOLE_BLOCK},
     {"refusal 1 for the sums", REFUSED + 1, no_sums, WHOLE_BLOCK},
     {"refusal 2", REFUSED + 2, no_address, WHOLE_BLOCK},
     {"refusal 3", REFUSED + 3, room_short, WHOLE_BLOCK},
@@ -255,17 +293,23 @@ static const struct call packets[] = {
 static const struct call renewals[] = {
     {"the last curve", 0xE0, NULL, 0x42, ON(LAST_CURVE)},
     {"a read-only curve", 0xE0, NULL, 0x42, ON(READ_ONLY_CURVE)},
+    {"blocks that aren't full", 0xE0, one_byte_short, 0x42, ON(LAST_CURVE)},
     {"the largest curve", 0xE0, one_curve, 0x42, ON(0)},
+    {"the largest curve, of blocks that aren't full", 0xE0, one_curve_short, 0x42, ON(0)},
     {"the largest curve, to all", SILENT, one_curve_to_all, 0x42, ON(0)},
+    {"the most blocks", 0xE0, most_blocks, 0x42, ON(0)},
 };
 
 static const struct call fresh_boards[] = {
     {.name = "done", .ends = DONE},
+    {.name = "blocks that aren't full", .ends = DONE, .change = one_byte_short},
     {.name = "the largest curve", .ends = DONE, .change = one_curve},
+    {.name = "the most blocks", .ends = DONE, .change = most_blocks},
 };
 
 static const struct call refused_fresh_boards[] = {
     {.name = "refusal 1", .ends = REFUSED + 1, .change = six_groups},
+    {.name = "refusal 1 for a length too few", .ends = REFUSED + 1, .change = length_too_few},
     {.name = "refusal 1 for the sums", .ends = REFUSED + 1, .change = no_sums},
 };
 
@@ -282,6 +326,7 @@ static const struct call results[] = {
     {"reply 51", 0x51, .number = LAST_FUNCTION, .length = BSMP_MOST_OUTPUT},
     {"reply 53", 0x53, .number = LAST_FUNCTION, .failed = true},
     {"refusal 1", REFUSED + 1, six_groups, .number = LAST_FUNCTION, .length = BSMP_MOST_OUTPUT},
+    {"refusal 1 for a length", REFUSED + 1, length_0, .number = LAST_FUNCTION, .length = BSMP_MOST_OUTPUT},
     {"refusal 3", REFUSED + 3, room_short, .number = LAST_FUNCTION, .length = BSMP_MOST_OUTPUT},
     {"refusal 7", REFUSED + 7, .number = LAST_FUNCTION + 1, .length = BSMP_MOST_OUTPUT},
     {"refusal 8", REFUSED + 8, .number = LAST_FUNCTION, .length = BSMP_MOST_OUTPUT - 1},
@@ -290,6 +335,7 @@ static const struct call results[] = {
 static const struct call stores[] = {
     {"done", DONE, .number = LAST_VARIABLE, .length = LAST_SIZE},
     {"refusal 1", REFUSED + 1, six_groups, .number = LAST_VARIABLE, .length = LAST_SIZE},
+    {"refusal 1 for a length", REFUSED + 1, length_0, .number = LAST_VARIABLE, .length = LAST_SIZE},
     {"refusal 9", REFUSED + 9, .number = LAST_VARIABLE + 1, .length = LAST_SIZE},
     {"refusal 10", REFUSED + 10, .number = LAST_VARIABLE, .length = LAST_SIZE + 1},
 };
@@ -321,6 +367,7 @@ static void prepare(const struct call *call)
     board.variable_count = BSMP_MOST_VARIABLES;
     board.curve_count = BSMP_MOST_CURVES;
     board.own = 5;
+    fill_lengths(BLOCKS, BSMP_MOST_BLOCK_SIZE);
     state.sums_length = sizeof sums;
     state.groups.count = BSMP_MOST_MADE_GROUPS;
     memset(state.groups.sets, 0xFF, sizeof state.groups.sets);

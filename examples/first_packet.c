@@ -10,9 +10,9 @@ int main(void)
     static const uint8_t packet[] = {0x05, 0x10, 0x00, 0x01, 0x00, 0xEA};
     static uint8_t values[4] = {0xFF, 0xFF, 0xFF, 0xFD};
     static uint8_t reply[BSMP_REPLY_ROOM];
-    struct bsmp_state state = {values, sizeof values, NULL, 0, NULL, 0, {0, {0}}};
+    struct bsmp_state state = {values, sizeof values, NULL, 0, NULL, 0, NULL, 0, {0, {0}}};
 
-    /* Before the first packet: it works out the sums of curves, if there are any, and tells an unusable board. */
+    /* Before the first packet: it fills the lengths of blocks and the sums of curves, if there are any, and tells an unusable board. */
     uint8_t refusal = bsmp_node_fresh(&board, &state);
     if (refusal != BSMP_NOT_REFUSED) {
         fprintf(stderr, "no start: %s\n", bsmp_refusal_words(refusal));

@@ -199,6 +199,7 @@ static enum waited transmit(const struct line *line, const uint8_t *bytes, size_
 
 static uint8_t values[BOARD_A_VALUES];
 static uint8_t blocks[BOARD_A_BLOCKS];
+static uint16_t lengths[BOARD_A_LENGTHS];
 static uint8_t sums[BOARD_A_SUMS];
 static uint8_t reply[BSMP_REPLY_ROOM];
 
@@ -234,7 +235,7 @@ static int serve(const struct line *line)
     static struct packet packet;
     struct bsmp_state state;
     enum waited waited = READY;
-    uint8_t refusal = board_a_fresh(&state, values, blocks, sums);
+    uint8_t refusal = board_a_fresh(&state, values, blocks, lengths, sums);
     if (refusal != BSMP_NOT_REFUSED) {
         say("the board is refused: %u, %s", refusal, bsmp_refusal_words(refusal));
         return 1;

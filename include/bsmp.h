@@ -26,7 +26,7 @@
  * NULL is fine for every slice (a pointer with its length) of length 0. A group table, a board and a state are never NULL.
  *
  * Nothing else is asked. Wrong records, lengths, numbers and packets get a refusal by number, and a refused call changes no
- * byte of any store, sum, group table or buffer. */
+ * byte of any store, length, sum, group table or buffer. */
 #ifndef BSMP_H
 #define BSMP_H
 
@@ -37,7 +37,7 @@
 /* The version of this header with its library; .ci/checks/version holds the Rust face's and the suite's to it. And the version of
  * the protocol, as the node answers it to command 00. */
 #define BSMP_VERSION_MAJOR 0
-#define BSMP_VERSION_MINOR 4
+#define BSMP_VERSION_MINOR 5
 #define BSMP_VERSION_PATCH 0
 #define BSMP_VERSION (10000 * BSMP_VERSION_MAJOR + 100 * BSMP_VERSION_MINOR + BSMP_VERSION_PATCH) /* for #if */
 #define BSMP_PROTOCOL_MAJOR 2
@@ -63,7 +63,7 @@ enum {
     BSMP_MOST_VALUE_BYTES = 4096,   /* bytes of all variables together */
     BSMP_MOST_CURVES = 8,
     BSMP_MOST_BLOCK_SIZE = 4096,    /* at least 1 */
-    BSMP_MOST_BLOCKS = 65536,       /* of one curve; at least 1 */
+    BSMP_MOST_BLOCKS = 65536,       /* of one curve, at least 1; of all curves together too, each with a length */
     BSMP_MOST_CURVE_BYTES = 65536,  /* bytes of all curves together */
     BSMP_SUM_SIZE = 16,             /* bytes of the sum of one curve */
     BSMP_MOST_FUNCTIONS = 16,
@@ -98,7 +98,7 @@ enum bsmp_outcome_kind { BSMP_REPLY = 0, BSMP_SILENCE = 1, BSMP_RUN = 2, BSMP_RE
 /* Local refusals. Where several are due, the smallest number is given, except that 11 comes before 10. */
 enum bsmp_refusal {
     BSMP_NOT_REFUSED = 0,
-    BSMP_BOARD_UNUSABLE = 1,      /* a record, the length of a store or of the sums, or a group breaks the limits */
+    BSMP_BOARD_UNUSABLE = 1,      /* a record, length or group, or the size of a store, of the lengths or sums breaks the limits */
     BSMP_BAD_ADDRESS = 2,         /* own address not 1 to 31, or the multicast byte's least bit not set */
     BSMP_REPLY_BUFFER_SHORT = 3,  /* under 4,104 bytes */
     BSMP_PACKET_LENGTH = 4,       /* under 2 or over 4,104 bytes */
@@ -164,12 +164,15 @@ struct bsmp_board {
     uint8_t multicast;     /* most significant bit is address 248, least is 255; the least is always set */
 };
 
-/* What changes. Each store has exactly the length that the records add up to, and the sums have BSMP_SUM_SIZE for each curve. */
+/* What changes. Each store has exactly the length that the records add up to, there is exactly one of the blocks' lengths for each
+ * block, and the sums have BSMP_SUM_SIZE for each curve. */
 struct bsmp_state {
     uint8_t *values; /* in order of number, each variable's value starts where the one before it ends */
     size_t values_length;
-    uint8_t *blocks; /* the curves likewise, block after block */
+    uint8_t *blocks; /* the curves likewise, block after block; a block takes up its block size here, full or not */
     size_t blocks_length;
+    uint16_t *lengths; /* the blocks' lengths likewise, each 1 to its curve's block size; bsmp_node_fresh fills them */
+    size_t length_count; /* the blocks of all curves */
     uint8_t *sums; /* the curves' sums likewise; bsmp_node_fresh fills them. Any bytes are taken: a sum may be stale */
     size_t sums_length;
     struct bsmp_groups groups;
@@ -214,18 +217,28 @@ struct bsmp_sum {
  *
  * Refusal 1 looks at all that both structs hold; in the last four, which take no state, at the variable records only. */
 
-/* Works out the sum of every curve: the MD5 of all its bytes. To be called once before the first packet, and again whenever the
- * board itself has changed bytes of a curve. Only the sums are written.
+/* Makes every block full: its length becomes its curve's block size. Then it works out the sum of every curve: the MD5 of all its
+ * bytes. To be called once before the first packet. Only lengths and sums are written. It asks that there is one length for each
+ * block, and not what stands there: any numbers are taken, as they are for the sums.
  * Gives 0 or refusal 1, which changes nothing; so an unusable board shows here, before its first packet.
+ *
+ * A length says how many bytes a block has: the first so many of its place in the store. Command 41 sets it to the number of bytes
+ * that it carries, so a shorter write makes the block shorter and a longer one makes it longer; command 40 answers with that many
+ * bytes, and a sum covers that many of each block, in block order. The bytes past a length stay in the store as they were, and are
+ * never sent. No list tells a length: a master learns it from the size of the answer to 40.
  *
  * A sum tells what its curve held when it was last worked out: by this call or, for one curve, read-only or not, by command 42.
  * What changes the curve after that, command 41 or the board, leaves the sum as it was: stale. No call looks whether it is, and
  * command 0A answers it as it stands. So a master that has sent a curve by 41 sends 42, then 0A, and compares the answer with
  * the bsmp_md5 of what it sent.
  *
- * This call and 42 go through the curve's bytes: some 2 ns each on a PC; on a Cortex-M3 some 70 instructions each, or 10 if the
- * library is built at opt-level 3. The reply to 42 waits for it. They take at most 1,280 bytes of stack beyond their arguments;
- * all calls that work out no sum take at most 640, or 704 on a Cortex-M3. (ctest/stack.c measures both.) */
+ * A board that itself writes a block also sets its length, 1 to the block size, and then has the sum renewed: by a 42, which it can
+ * hand to bsmp_node_packet itself, or by this call, which makes every block full again.
+ *
+ * This call and 42 go through the bytes that a sum covers: some 2 ns each on a PC; on a Cortex-M3 some 70 instructions each, or 10
+ * if the library is built at opt-level 3. The reply to 42 waits for it. They take at most 1,280 bytes of stack beyond their
+ * arguments; all calls that work out no sum take at most 640, or 704 on a Cortex-M3. (ctest/stack.c measures both.) And every call
+ * with a state looks at all lengths, so on a board with many blocks every call takes longer. */
 static inline uint8_t bsmp_node_fresh(const struct bsmp_board *board, struct bsmp_state *state);
 
 /* One packet, all its bytes from the destination to the checksum.
@@ -235,7 +248,7 @@ static inline uint8_t bsmp_node_fresh(const struct bsmp_board *board, struct bsm
  * Refusals, in this order: 1 to 6. They change nothing.
  * Outcomes:
  *   BSMP_REPLY    to be sent. Of the reply buffer, only the reply's own bytes were written. If it is a wire error, no value,
- *                 block, sum or group changed.
+ *                 block, length, sum or group changed.
  *   BSMP_SILENCE  a multicast packet was carried out, or was in error; nothing is to be sent.
  *   BSMP_RUN      the board is to run a function and say what came of it by one of the next three. Nothing was written, and
  *                 the library doesn't wait for it: other packets may come first. */
@@ -314,21 +327,22 @@ struct bsmp_sum bsmp_md5(const uint8_t *message, size_t length);
  *   variables  records, as above.
  *   curves     three numbers to a record, so curve_numbers is 3 times the curves; a record that is cut off breaks the limits.
  *   functions  two numbers to a record, likewise.
- *   values, blocks, sums, groups, own, multicast   as above. */
+ *   values, blocks, lengths, sums, groups, own, multicast   as above. */
 
 struct bsmp_outcome bsmp_packet(const struct bsmp_variable *variables, size_t variable_count,
                                 const uint32_t *curves, size_t curve_numbers,
                                 const uint8_t *functions, size_t function_numbers,
                                 struct bsmp_groups *groups, uint8_t own, uint8_t multicast, uint64_t busy,
                                 uint8_t *values, size_t values_length, uint8_t *blocks, size_t blocks_length,
-                                uint8_t *sums, size_t sums_length, const uint8_t *packet, size_t packet_length,
-                                uint8_t *reply, size_t reply_room);
+                                uint16_t *lengths, size_t length_count, uint8_t *sums, size_t sums_length,
+                                const uint8_t *packet, size_t packet_length, uint8_t *reply, size_t reply_room);
 
 struct bsmp_outcome bsmp_function_result(const struct bsmp_variable *variables, size_t variable_count,
                                          const uint32_t *curves, size_t curve_numbers,
                                          const uint8_t *functions, size_t function_numbers,
                                          const struct bsmp_groups *groups, const uint8_t *values, size_t values_length,
                                          const uint8_t *blocks, size_t blocks_length,
+                                         const uint16_t *lengths, size_t length_count,
                                          const uint8_t *sums, size_t sums_length, size_t function, bool due,
                                          bool failed, uint8_t error, const uint8_t *output, size_t output_length,
                                          uint8_t *reply, size_t reply_room);
@@ -337,14 +351,16 @@ uint8_t bsmp_board_store(const struct bsmp_variable *variables, size_t variable_
                          const uint32_t *curves, size_t curve_numbers,
                          const uint8_t *functions, size_t function_numbers,
                          const struct bsmp_groups *groups, uint8_t *values, size_t values_length,
-                         const uint8_t *blocks, size_t blocks_length, const uint8_t *sums, size_t sums_length,
-                         size_t variable, const uint8_t *bytes, size_t byte_count);
+                         const uint8_t *blocks, size_t blocks_length, const uint16_t *lengths, size_t length_count,
+                         const uint8_t *sums, size_t sums_length, size_t variable,
+                         const uint8_t *bytes, size_t byte_count);
 
 uint8_t bsmp_fresh_board(const struct bsmp_variable *variables, size_t variable_count,
                          const uint32_t *curves, size_t curve_numbers,
                          const uint8_t *functions, size_t function_numbers,
                          const struct bsmp_groups *groups, const uint8_t *values, size_t values_length,
-                         const uint8_t *blocks, size_t blocks_length, uint8_t *sums, size_t sums_length);
+                         const uint8_t *blocks, size_t blocks_length, uint16_t *lengths, size_t length_count,
+                         uint8_t *sums, size_t sums_length);
 
 struct bsmp_signed_reading bsmp_read_signed(const struct bsmp_variable *variables, size_t variable_count, size_t variable,
                                             const uint8_t *bytes, size_t byte_count);
@@ -392,7 +408,9 @@ static inline const uint8_t *bsmp_node_function_numbers(const struct bsmp_board 
 #define BSMP_RECORDS                                                                                                        \
     board->variables, board->variable_count, bsmp_node_curve_numbers(board), 3 * board->curve_count,                        \
         bsmp_node_function_numbers(board), 2 * board->function_count
-#define BSMP_STORES state->values, state->values_length, state->blocks, state->blocks_length, state->sums, state->sums_length
+#define BSMP_STORES                                                                                                         \
+    state->values, state->values_length, state->blocks, state->blocks_length, state->lengths, state->length_count,          \
+        state->sums, state->sums_length
 
 static inline uint8_t bsmp_node_fresh(const struct bsmp_board *board, struct bsmp_state *state)
 {

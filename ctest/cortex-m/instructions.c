@@ -1,5 +1,6 @@
-/* What a packet costs on a Cortex-M, in instructions with the call: on board A, and on a board with 64 variables of 4,096 bytes together and
- * 8 curves. Run with -icount shift=0, the emulator takes a nanosecond for each instruction; the tick counts at 25 MHz. */
+/* What a packet costs on a Cortex-M, in instructions with the call: on board A; on a board with 64 variables of 4,096 bytes together and 8
+ * curves of two blocks each; and on one with as many blocks as there can be. Run with -icount shift=0, the emulator takes a nanosecond for
+ * each instruction; the tick counts at 25 MHz. */
 #include "board_a.h"
 
 #include <stdio.h>
@@ -13,8 +14,14 @@ struct ticks {
 static struct bsmp_variable variables[BSMP_MOST_VARIABLES];
 static struct bsmp_curve curves[BSMP_MOST_CURVES];
 static const struct bsmp_board large = {variables, BSMP_MOST_VARIABLES, curves, BSMP_MOST_CURVES, NULL, 0, 5, 1};
+static const struct bsmp_curve of_bytes = {BSMP_WRITABLE, 1, BSMP_MOST_BLOCKS};
+static const struct bsmp_board many_blocks = {board_a_variables, 3, &of_bytes, 1, NULL, 0, 5, 1};
 static uint8_t values[BSMP_MOST_VALUE_BYTES], blocks[BSMP_MOST_CURVE_BYTES], sums[BSMP_MOST_CURVES * BSMP_SUM_SIZE];
+static uint16_t lengths[BSMP_MOST_BLOCKS];
 static uint8_t packet[BSMP_MOST_PACKET], reply[BSMP_REPLY_ROOM];
+
+/* Of the large board, the last block of one curve isn't full. */
+enum { SHORT_CURVE = 6, SHORT_PLACE = 2 * SHORT_CURVE + 1, SHORT_LENGTH = 1000 };
 
 struct asked {
     const char *name;
@@ -38,8 +45,13 @@ static const struct asked all[] = {
     {"write of a group of 64", &large, 0x22, {0}, 1, 4096, 0xE0},
     {"read of a block of 4,096 bytes", &large, 0x40, {7, 0, 1}, 3, 0, 0x41},
     {"write of a block of 4,096 bytes", &large, 0x41, {7, 0, 1}, 3, 4096, 0xE0},
+    {"read of a block of 4,096 that has 1,000 bytes", &large, 0x40, {SHORT_CURVE, 0, 1}, 3, 0, 0x41},
+    {"write of 1,000 bytes to a block of 4,096", &large, 0x41, {SHORT_CURVE, 0, 1}, 3, SHORT_LENGTH, 0xE0},
     {"read of a sum", &large, 0x0A, {7}, 1, 0, 0x0B},
     {"renewal of the sum of 8,192 bytes", &large, 0x42, {7}, 1, 0, 0xE0},
+    {"renewal of the sum of 4,096 and 1,000 bytes", &large, 0x42, {SHORT_CURVE}, 1, 0, 0xE0},
+    {"read of a variable, 65,536 blocks", &many_blocks, 0x10, {0}, 1, 0, 0x11},
+    {"read of a block, 65,536 blocks", &many_blocks, 0x40, {0, 0xFF, 0xFF}, 3, 0, 0x41},
 };
 
 static size_t make_packet(const struct asked *asked)
@@ -57,8 +69,16 @@ static size_t make_packet(const struct asked *asked)
 
 static struct bsmp_state start_state(const struct asked *asked)
 {
-    struct bsmp_state state = {values, sizeof values, blocks, sizeof blocks, sums, sizeof sums, {0, {0, 0, 0, 0, 0}}};
-    if (asked->board == &board_a) board_a_fresh(&state, values, blocks, sums);
+    struct bsmp_state state = {values, sizeof values, blocks, sizeof blocks, lengths, 2 * BSMP_MOST_CURVES, sums, sizeof sums,
+                               {0, {0, 0, 0, 0, 0}}};
+    if (asked->board == &board_a) board_a_fresh(&state, values, blocks, lengths, sums);
+    if (asked->board == &many_blocks) {
+        state.values_length = BOARD_A_VALUES;
+        state.length_count = BSMP_MOST_BLOCKS;
+        state.sums_length = BSMP_SUM_SIZE;
+    }
+    bsmp_node_fresh(asked->board, &state);
+    if (asked->board == &large) lengths[SHORT_PLACE] = SHORT_LENGTH;
     return state;
 }
 

@@ -57,6 +57,11 @@ static inline uint8_t *heap(size_t length)
     return block;
 }
 
+static inline uint16_t *heap_of_lengths(size_t count)
+{
+    return (uint16_t *)(void *)heap(count * sizeof(uint16_t));
+}
+
 static inline size_t bytes_of(const char *text, uint8_t *bytes)
 {
     size_t length = 0;
@@ -124,11 +129,33 @@ static inline void set_blocks_length(struct bench *bench, size_t length)
     bench->state.blocks_length = length;
 }
 
+static inline void set_length_count(struct bench *bench, size_t count)
+{
+    free(bench->state.lengths);
+    bench->state.lengths = heap_of_lengths(count);
+    bench->state.length_count = count;
+}
+
 static inline void set_sums_length(struct bench *bench, size_t length)
 {
     free(bench->state.sums);
     bench->state.sums = heap(length);
     bench->state.sums_length = length;
+}
+
+/* What the curve records ask for, with full blocks. */
+static inline void fit_to_curves(struct bench *bench)
+{
+    size_t bytes = 0, count = 0, place = 0;
+    for (size_t i = 0; i < bench->board.curve_count; i++) {
+        bytes += (size_t)bench->curves[i].block_size * bench->curves[i].blocks;
+        count += bench->curves[i].blocks;
+    }
+    set_blocks_length(bench, bytes);
+    set_length_count(bench, count);
+    set_sums_length(bench, BSMP_SUM_SIZE * bench->board.curve_count);
+    for (size_t i = 0; i < bench->board.curve_count; i++)
+        for (size_t k = 0; k < bench->curves[i].blocks; k++) bench->state.lengths[place++] = (uint16_t)bench->curves[i].block_size;
 }
 
 static inline void set_room(struct bench *bench, size_t room)
@@ -149,7 +176,8 @@ static inline void start(struct bench *bench)
     bench->board.variables = bench->variables;
     bench->board.curves = bench->curves;
     bench->board.functions = bench->functions;
-    check_number("board A", board_a_fresh(&bench->state, heap(BOARD_A_VALUES), heap(BOARD_A_BLOCKS), heap(BOARD_A_SUMS)), 0);
+    check_number("board A", board_a_fresh(&bench->state, heap(BOARD_A_VALUES), heap(BOARD_A_BLOCKS),
+                                          heap_of_lengths(BOARD_A_LENGTHS), heap(BOARD_A_SUMS)), 0);
     set_room(bench, BSMP_REPLY_ROOM);
 }
 
@@ -157,6 +185,7 @@ static inline void end(struct bench *bench)
 {
     free(bench->state.values);
     free(bench->state.blocks);
+    free(bench->state.lengths);
     free(bench->state.sums);
     free(bench->reply);
 }
@@ -167,13 +196,18 @@ static inline uint64_t mixed(uint64_t digest, const void *bytes, size_t length)
     return digest;
 }
 
-/* Of the stores and the group table, and of the sums too, so that "nothing changed" is one comparison. */
-static inline uint64_t digest_but_sums(const struct bench *bench)
+/* Of the stores and the group table, then of the lengths and of the sums too, so that "nothing changed" is one comparison. */
+static inline uint64_t digest_of_stores(const struct bench *bench)
 {
     uint64_t digest = UINT64_C(14695981039346656037);
     digest = mixed(digest, bench->state.values, bench->state.values_length);
     digest = mixed(digest, bench->state.blocks, bench->state.blocks_length);
     return mixed(digest, &bench->state.groups, sizeof bench->state.groups);
+}
+
+static inline uint64_t digest_but_sums(const struct bench *bench)
+{
+    return mixed(digest_of_stores(bench), bench->state.lengths, bench->state.length_count * sizeof *bench->state.lengths);
 }
 
 static inline uint64_t digest(const struct bench *bench)
@@ -191,7 +225,8 @@ static inline struct bsmp_outcome packet_by(int way, struct bench *bench, const 
     return bsmp_packet(bench->variables, board->variable_count, &bench->curves[0].writable, 3 * board->curve_count,
                        &bench->functions[0].input, 2 * board->function_count, &state->groups, board->own,
                        board->multicast, bench->busy, state->values, state->values_length, state->blocks,
-                       state->blocks_length, state->sums, state->sums_length, packet, length, bench->reply, bench->room);
+                       state->blocks_length, state->lengths, state->length_count, state->sums, state->sums_length,
+                       packet, length, bench->reply, bench->room);
 }
 
 struct result {
@@ -215,8 +250,9 @@ static inline struct bsmp_outcome result_by(int way, struct bench *bench, const 
     return bsmp_function_result(bench->variables, board->variable_count, &bench->curves[0].writable,
                                 3 * board->curve_count, &bench->functions[0].input, 2 * board->function_count,
                                 &state->groups, state->values, state->values_length, state->blocks,
-                                state->blocks_length, state->sums, state->sums_length, result->function, result->due,
-                                result->failed, result->error, output, length, bench->reply, bench->room);
+                                state->blocks_length, state->lengths, state->length_count, state->sums,
+                                state->sums_length, result->function, result->due, result->failed, result->error,
+                                output, length, bench->reply, bench->room);
 }
 
 static inline uint8_t store_by(int way, struct bench *bench, size_t variable, const uint8_t *bytes, size_t count)
@@ -226,8 +262,8 @@ static inline uint8_t store_by(int way, struct bench *bench, size_t variable, co
     if (way == INLINE) return bsmp_node_store(board, state, variable, bytes, count);
     return bsmp_board_store(bench->variables, board->variable_count, &bench->curves[0].writable, 3 * board->curve_count,
                             &bench->functions[0].input, 2 * board->function_count, &state->groups, state->values,
-                            state->values_length, state->blocks, state->blocks_length, state->sums, state->sums_length,
-                            variable, bytes, count);
+                            state->values_length, state->blocks, state->blocks_length, state->lengths,
+                            state->length_count, state->sums, state->sums_length, variable, bytes, count);
 }
 
 static inline uint8_t fresh_by(int way, struct bench *bench)
@@ -237,7 +273,28 @@ static inline uint8_t fresh_by(int way, struct bench *bench)
     if (way == INLINE) return bsmp_node_fresh(board, state);
     return bsmp_fresh_board(bench->variables, board->variable_count, &bench->curves[0].writable, 3 * board->curve_count,
                             &bench->functions[0].input, 2 * board->function_count, &state->groups, state->values,
-                            state->values_length, state->blocks, state->blocks_length, state->sums, state->sums_length);
+                            state->values_length, state->blocks, state->blocks_length, state->lengths,
+                            state->length_count, state->sums, state->sums_length);
+}
+
+/* The MD5 of what a curve holds: of each of its blocks as many bytes as its length says. */
+static inline struct bsmp_sum sum_of(const struct bench *bench, size_t curve)
+{
+    const uint8_t *block = bench->state.blocks;
+    const uint16_t *lengths = bench->state.lengths;
+    for (size_t i = 0; i < curve; i++) {
+        block += (size_t)bench->curves[i].block_size * bench->curves[i].blocks;
+        lengths += bench->curves[i].blocks;
+    }
+    size_t size = bench->curves[curve].block_size, count = bench->curves[curve].blocks, together = 0;
+    uint8_t *held = heap(size * count);
+    for (size_t i = 0; i < count; i++, block += size) {
+        memcpy(held + together, block, lengths[i]);
+        together += lengths[i];
+    }
+    struct bsmp_sum sum = bsmp_md5(held, together);
+    free(held);
+    return sum;
 }
 
 /* ---- What came of them: a reply's bytes, "silence", "run 0 with 07, due", "refused 5" ---- */
@@ -283,7 +340,7 @@ static inline bool is_wire_error(const struct bench *bench, const struct bsmp_ou
     return outcome->kind == BSMP_REPLY && bench->reply[1] > BSMP_WIRE_OK;
 }
 
-/* Sends a packet; refusals, runs and wire errors must leave stores, sums and group table as they were. */
+/* Sends a packet; refusals, runs and wire errors must leave stores, lengths, sums and group table as they were. */
 static inline void expect_packet(struct bench *bench, int way, const char *packet_text, const char *expected)
 {
     uint8_t bytes[32];
@@ -295,8 +352,47 @@ static inline void expect_packet(struct bench *bench, int way, const char *packe
     struct bsmp_outcome outcome = packet_by(way, bench, packet, length);
     check_outcome(packet_text, way, bench, &outcome, packet, expected);
     if (outcome.kind == BSMP_REFUSED || outcome.kind == BSMP_RUN || is_wire_error(bench, &outcome))
-        check(digest(bench) == before, packet_text, "a store, a sum or the group table changed");
+        check(digest(bench) == before, packet_text, "a store, a length, a sum or the group table changed");
     free(packet);
+}
+
+/* No place, value or store of a number, whatever else is wrong with the call, and though the readings may see nothing wrong. */
+static inline void expect_no_values(struct bench *bench, const char *name)
+{
+    const struct bsmp_board *board = &bench->board;
+    struct bsmp_state *state = &bench->state;
+    static const size_t variables[] = {0, 1, 2, SIZE_MAX};
+    for (size_t i = 0; i < sizeof variables / sizeof variables[0]; i++) {
+        struct bsmp_place place = bsmp_node_place(board, state, variables[i]);
+        check(place.refusal == BSMP_BOARD_UNUSABLE && place.offset == 0 && place.size == 0, name, "a place was given");
+        check_number(name, bsmp_node_value_signed(board, state, variables[i]).refusal, BSMP_BOARD_UNUSABLE);
+        check_number(name, bsmp_node_value_unsigned(board, state, variables[i]).refusal, BSMP_BOARD_UNUSABLE);
+        check_number(name, bsmp_node_store_signed(board, state, variables[i], INT64_MAX), BSMP_BOARD_UNUSABLE);
+        check_number(name, bsmp_node_store_unsigned(board, state, variables[i], UINT64_MAX), BSMP_BOARD_UNUSABLE);
+    }
+}
+
+/* Refusal 1 by all calls with a state but a fresh board, which asks less of the lengths. Nothing changes. */
+static inline void expect_unusable(struct bench *bench, int way, const char *name)
+{
+    static const uint8_t packet[] = {5, 0x20, 0, 2, 1, 0x66, 0x72}, bytes[4] = {0};
+    static const struct result result = {0, true, false, 0, "01 02"};
+    uint64_t before = digest(bench);
+    memset(bench->reply, UNTOUCHED, bench->room);
+    struct bsmp_outcome outcome = packet_by(way, bench, packet, sizeof packet);
+    check_outcome(name, way, bench, &outcome, packet, "refused 1");
+    outcome = result_by(way, bench, &result);
+    check_outcome(name, way, bench, &outcome, packet, "refused 1");
+    check_number(name, store_by(way, bench, 0, bytes, sizeof bytes), BSMP_BOARD_UNUSABLE);
+    if (way == INLINE) expect_no_values(bench, name);
+    check(digest(bench) == before, name, "a refusal changed something");
+}
+
+static inline void expect_no_fresh(struct bench *bench, int way, const char *name)
+{
+    uint64_t before = digest(bench);
+    check_number(name, fresh_by(way, bench), BSMP_BOARD_UNUSABLE);
+    check(digest(bench) == before, name, "a refused fresh board changed something");
 }
 
 #endif

@@ -8,9 +8,9 @@ struct line {
     const char *values; /* after it; NULL if as on a fresh board */
 };
 
-/* The answer to 0A: for 8 zero bytes, and with AB CD at the front of block 1. */
+/* The answer to 0A: for 8 zero bytes, and with AB CD as all that block 1 has. */
 #define FRESH_SUM "00 0B 00 10 7D EA 36 2B 3F AC 8E 00 95 6A 49 52 A3 D4 F4 74 ="
-#define WRITTEN_SUM "00 0B 00 10 1D B3 FB 68 B0 CD 2B 36 6E E9 13 2E 04 93 73 FF ="
+#define WRITTEN_SUM "00 0B 00 10 1E 24 A6 1F BE DB 28 5C FE 14 A3 11 8D AD A1 58 ="
 
 static const struct line lines[] = {
     {false, "FF 20 00 02 01 67 =", "silence", "FF FF FF FD 67 34 12"},
@@ -27,7 +27,7 @@ static const struct line lines[] = {
     {false, "05 26 00 05 02 59 F0 0F FF =", "00 E2 00 00 =", NULL},
     {false, "05 28 00 03 01 03 77 =", "00 E3 00 00 =", NULL},
     {false, "05 41 00 05 00 00 01 AB CD =", "00 E0 00 00 =", NULL},
-    {true, "05 40 00 03 00 00 01 =", "00 41 00 07 00 00 01 AB CD 00 00 =", NULL},
+    {true, "05 40 00 03 00 00 01 =", "00 41 00 05 00 00 01 AB CD =", NULL},
     {true, "05 0A 00 01 00 =", FRESH_SUM, NULL},
     {true, "FF 0A 00 01 00 =", "silence", NULL},
     {true, "05 42 00 01 01 =", "00 E3 00 00 =", NULL},

@@ -6,14 +6,14 @@ static void try_no_curves_or_functions(void)
     static const uint8_t packet[] = {5, 0x08, 0, 0, 0xF3};
     uint8_t values[BOARD_A_VALUES] = {0}, *reply = heap(BSMP_REPLY_ROOM);
     struct bsmp_board board = {board_a_variables, 3, NULL, 0, NULL, 0, 5, 0x81};
-    struct bsmp_state state = {values, sizeof values, NULL, 0, NULL, 0, {0, {0, 0, 0, 0, 0}}};
+    struct bsmp_state state = {values, sizeof values, NULL, 0, NULL, 0, NULL, 0, {0, {0, 0, 0, 0, 0}}};
     struct bsmp_outcome outcome = bsmp_node_packet(&board, &state, 0, packet, sizeof packet, reply, BSMP_REPLY_ROOM);
     check_number("no curves, no functions: outcome", outcome.kind, BSMP_REPLY);
     check_text("no curves, no functions", INLINE, text_of(reply, outcome.length).text, "00 09 00 00 F7");
     free(reply);
 }
 
-/* A board without curves has neither blocks nor sums. */
+/* A board without curves has neither blocks nor lengths nor sums. */
 static void try_no_curves(int way)
 {
     static const struct result result = {0, true, false, 0, "AB CD"};
@@ -21,14 +21,18 @@ static void try_no_curves(int way)
     struct bench bench;
     start(&bench);
     free(bench.state.blocks);
+    free(bench.state.lengths);
     free(bench.state.sums);
     bench.state.blocks = bench.state.sums = NULL;
-    bench.state.blocks_length = bench.state.sums_length = 0;
+    bench.state.lengths = NULL;
+    bench.state.blocks_length = bench.state.length_count = bench.state.sums_length = 0;
     bench.board.curves = NULL;
     bench.board.curve_count = 0;
     check_number("no curves: a fresh board", fresh_by(way, &bench), 0);
     expect_packet(&bench, way, "05 08 00 00 =", "00 09 00 00 =");
     expect_packet(&bench, way, "05 0A 00 01 00 =", "00 E3 00 00 =");
+    expect_packet(&bench, way, "05 40 00 03 00 00 00 =", "00 E3 00 00 =");
+    expect_packet(&bench, way, "05 41 00 04 00 00 00 AB =", "00 E3 00 00 =");
     expect_packet(&bench, way, "05 42 00 01 00 =", "00 E3 00 00 =");
     struct bsmp_outcome outcome = result_by(way, &bench, &result);
     check_outcome("no curves: a function's result", way, &bench, &outcome, NULL, "00 51 00 02 AB CD =");
@@ -40,7 +44,7 @@ static void try_no_curves(int way)
 static void try_null_buffers(void)
 {
     static const struct bsmp_board nothing = {NULL, 0, NULL, 0, NULL, 0, 5, 0x81};
-    struct bsmp_state none = {NULL, 0, NULL, 0, NULL, 0, {0, {0, 0, 0, 0, 0}}};
+    struct bsmp_state none = {NULL, 0, NULL, 0, NULL, 0, NULL, 0, {0, {0, 0, 0, 0, 0}}};
     struct bench bench;
     start(&bench);
     struct bsmp_outcome outcome = bsmp_node_packet(&bench.board, &bench.state, 0, NULL, 0, bench.reply, bench.room);

@@ -5,7 +5,7 @@
 static struct bsmp_variable numbers[16];
 static const struct bsmp_board number_board = {numbers, 16, NULL, 0, NULL, 0, 5, 0x81};
 static uint8_t number_values[4 * (1 + 2 + 4 + 8)];
-static struct bsmp_state number_state = {number_values, sizeof number_values, NULL, 0, NULL, 0, {0, {0, 0, 0, 0, 0}}};
+static struct bsmp_state number_state = {number_values, sizeof number_values, NULL, 0, NULL, 0, NULL, 0, {0, {0, 0, 0, 0, 0}}};
 
 static void make_numbers(void)
 {

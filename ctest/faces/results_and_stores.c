@@ -26,7 +26,7 @@ static void try_function_results(int way)
         uint64_t before = digest(&bench);
         struct bsmp_outcome outcome = result_by(way, &bench, &tries[i].result);
         check_outcome("a function's result", way, &bench, &outcome, NULL, tries[i].outcome);
-        check(digest(&bench) == before, "a function's result", "a store, a sum or the group table changed");
+        check(digest(&bench) == before, "a function's result", "a store, a length, a sum or the group table changed");
         end(&bench);
     }
 }

@@ -10,12 +10,13 @@ struct example {
     /* The board as it is after the packet, by what the lines say. */
     struct bsmp_state said;
     uint8_t values[BOARD_A_VALUES], blocks[BOARD_A_BLOCKS], sums[BOARD_A_SUMS];
+    uint16_t lengths[BOARD_A_LENGTHS];
 };
 
 static void start_example(struct example *example)
 {
     start(&example->bench);
-    check_number("board A", board_a_fresh(&example->said, example->values, example->blocks, example->sums), 0);
+    check_number("board A", board_a_fresh(&example->said, example->values, example->blocks, example->lengths, example->sums), 0);
     example->packet[0] = 0;
     example->ended = false;
 }
@@ -26,6 +27,7 @@ static void end_packet(const struct example *example)
     check(example->ended, example->packet, "no packet with an outcome");
     check_values(example->packet, example->way, &example->bench, text_of(said->values, BOARD_A_VALUES).text);
     check(memcmp(state->blocks, said->blocks, BOARD_A_BLOCKS) == 0, example->packet, "a block changed");
+    check(memcmp(state->lengths, said->lengths, sizeof example->lengths) == 0, example->packet, "a length changed");
     check(memcmp(state->sums, said->sums, BOARD_A_SUMS) == 0, example->packet, "a sum changed");
     check(memcmp(&state->groups, &said->groups, sizeof said->groups) == 0, example->packet, "another group table");
 }

@@ -9,6 +9,7 @@ void try_commands(int way);
 void try_packets(int way);
 void try_tables(int way);
 void try_results_and_stores(int way);
+void try_block_lengths(int way);
 void try_sums(int way);
 void try_md5(void);
 void try_null(void);

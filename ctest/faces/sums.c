@@ -12,15 +12,6 @@ struct drum {
     uint8_t said[CURVES * BSMP_SUM_SIZE]; /* the sums as they should be */
 };
 
-static size_t length_of(size_t curve) { return curves[curve].block_size * curves[curve].blocks; }
-
-static size_t place_of(size_t curve)
-{
-    size_t place = 0;
-    while (curve > 0) place += length_of(--curve);
-    return place;
-}
-
 /* The sums are still to be worked out. All variables are busy, which is nothing to a curve. */
 static void start_drum(struct drum *drum, int way)
 {
@@ -30,16 +21,15 @@ static void start_drum(struct drum *drum, int way)
     memcpy(bench->curves, curves, sizeof curves);
     bench->board.curve_count = CURVES;
     bench->busy = UINT64_MAX;
-    set_blocks_length(bench, place_of(CURVES));
-    for (size_t i = 0; i < place_of(CURVES); i++) bench->state.blocks[i] = (uint8_t)(7 * i);
-    set_sums_length(bench, sizeof drum->said);
+    fit_to_curves(bench);
+    for (size_t i = 0; i < bench->state.blocks_length; i++) bench->state.blocks[i] = (uint8_t)(7 * i);
     memcpy(drum->said, bench->state.sums, sizeof drum->said);
 }
 
 /* From now on the sum of this curve should be that of what it holds. */
 static void say_sum(struct drum *drum, size_t curve)
 {
-    struct bsmp_sum sum = bsmp_md5(drum->bench.state.blocks + place_of(curve), length_of(curve));
+    struct bsmp_sum sum = sum_of(&drum->bench, curve);
     memcpy(drum->said + BSMP_SUM_SIZE * curve, sum.bytes, BSMP_SUM_SIZE);
 }
 
@@ -59,7 +49,7 @@ static void make_fresh(struct drum *drum)
 {
     uint64_t before = digest_but_sums(&drum->bench);
     check_number("a fresh board", fresh_by(drum->way, &drum->bench), 0);
-    check(digest_but_sums(&drum->bench) == before, "a fresh board", "a store or the group table changed");
+    check(digest_but_sums(&drum->bench) == before, "a fresh board", "a store, a length or the group table changed");
     for (size_t i = 0; i < CURVES; i++) say_sum(drum, i);
     check_sums(drum, "a fresh board");
 }
@@ -70,7 +60,7 @@ static void renew(struct drum *drum, size_t curve)
     uint64_t before = digest_but_sums(&drum->bench);
     snprintf(packet, sizeof packet, "05 42 00 01 %02X =", (unsigned)curve);
     expect_packet(&drum->bench, drum->way, packet, "00 E0 00 00 =");
-    check(digest_but_sums(&drum->bench) == before, packet, "a store or the group table changed");
+    check(digest_but_sums(&drum->bench) == before, packet, "a store, a length or the group table changed");
     say_sum(drum, curve);
     check_sums(drum, packet);
 }
@@ -81,7 +71,7 @@ static void try_fresh(int way)
     start_drum(&drum, way);
     check_sums(&drum, "sums that nobody worked out");
     make_fresh(&drum);
-    drum.bench.state.blocks[place_of(CURVES) - 1] ^= 1;
+    drum.bench.state.blocks[drum.bench.state.blocks_length - 1] ^= 1;
     check_sums(&drum, "a byte that the board changed");
     make_fresh(&drum);
     end(&drum.bench);

@@ -10,16 +10,17 @@ static void number_of_3(struct bench *b) { b->variables[2].size = 3; set_values_
 static void values_short(struct bench *b) { set_values_length(b, BOARD_A_VALUES - 1); }
 static void values_long(struct bench *b) { set_values_length(b, BOARD_A_VALUES + 1); }
 static void curve_type_2(struct bench *b) { b->curves[0].writable = 2; }
-static void block_size_0(struct bench *b) { b->curves[0].block_size = 0; set_blocks_length(b, 0); }
-static void block_size_4097(struct bench *b) { b->curves[0].block_size = 4097; set_blocks_length(b, 2 * 4097); }
-static void no_blocks(struct bench *b) { b->curves[0].blocks = 0; set_blocks_length(b, 0); }
+static void block_size_0(struct bench *b) { b->curves[0].block_size = 0; fit_to_curves(b); }
+static void block_size_4097(struct bench *b) { b->curves[0].block_size = 4097; fit_to_curves(b); }
+static void no_blocks(struct bench *b) { b->curves[0].blocks = 0; fit_to_curves(b); }
 static void blocks_short(struct bench *b) { set_blocks_length(b, BOARD_A_BLOCKS - 1); }
 static void blocks_long(struct bench *b) { set_blocks_length(b, BOARD_A_BLOCKS + 1); }
 static void sums_short(struct bench *b) { set_sums_length(b, BOARD_A_SUMS - 1); }
 static void sums_long(struct bench *b) { set_sums_length(b, BOARD_A_SUMS + 1); }
 static void no_sums(struct bench *b) { set_sums_length(b, 0); }
 static void sums_of_2_curves(struct bench *b) { set_sums_length(b, 2 * BSMP_SUM_SIZE); }
-static void sums_without_curves(struct bench *b) { b->board.curve_count = 0; set_blocks_length(b, 0); }
+static void sums_without_curves(struct bench *b) { b->board.curve_count = 0; set_blocks_length(b, 0); set_length_count(b, 0); }
+static void lengths_without_curves(struct bench *b) { b->board.curve_count = 0; set_blocks_length(b, 0); set_sums_length(b, 0); }
 static void input_16(struct bench *b) { b->functions[0].input = 16; }
 static void output_16(struct bench *b) { b->functions[0].output = 16; }
 static void functions_17(struct bench *b) { b->board.function_count = 17; }
@@ -31,7 +32,7 @@ static void curve_of_65537(struct bench *b)
 {
     b->curves[0].block_size = 1;
     b->curves[0].blocks = 65537;
-    set_blocks_length(b, 65537);
+    fit_to_curves(b);
 }
 
 static void plain_variables(struct bench *b, size_t count, uint8_t size)
@@ -51,16 +52,27 @@ static void curves_9(struct bench *b)
 {
     for (size_t i = 0; i < 9; i++) b->curves[i].block_size = b->curves[i].blocks = 1;
     b->board.curve_count = 9;
-    set_blocks_length(b, 9);
-    set_sums_length(b, 9 * BSMP_SUM_SIZE);
+    fit_to_curves(b);
 }
 
 static void curves_of_69632(struct bench *b)
 {
     b->curves[0].block_size = 4096;
     b->curves[0].blocks = 17;
-    set_blocks_length(b, 17 * 4096);
+    fit_to_curves(b);
 }
+
+/* Each that of a full block. */
+static void lend_lengths(struct bench *b, size_t count)
+{
+    set_length_count(b, count);
+    for (size_t i = 0; i < count; i++) b->state.lengths[i] = (uint16_t)b->curves[0].block_size;
+}
+
+static void no_lengths(struct bench *b) { lend_lengths(b, 0); }
+static void length_too_few(struct bench *b) { lend_lengths(b, BOARD_A_LENGTHS - 1); }
+static void length_too_many(struct bench *b) { lend_lengths(b, BOARD_A_LENGTHS + 1); }
+static void length_for_each_byte(struct bench *b) { lend_lengths(b, BOARD_A_BLOCKS); }
 
 static const struct wrong {
     const char *name;
@@ -86,6 +98,11 @@ static const struct wrong {
     {"curves of 69,632 bytes", false, curves_of_69632},
     {"a store of blocks one byte short", false, blocks_short},
     {"a store of blocks one byte long", false, blocks_long},
+    {"no lengths", false, no_lengths},
+    {"a length too few", false, length_too_few},
+    {"a length too many", false, length_too_many},
+    {"a length for each byte of the blocks", false, length_for_each_byte},
+    {"lengths without curves", false, lengths_without_curves},
     {"sums one byte short", false, sums_short},
     {"sums one byte long", false, sums_long},
     {"no sums", false, no_sums},
@@ -99,39 +116,15 @@ static const struct wrong {
     {"a group of an undeclared variable", false, group_undeclared},
 };
 
-/* Whatever else is wrong with the call, and though the readings may see nothing wrong. */
-static void try_wrong_values(struct bench *bench, const char *name)
-{
-    const struct bsmp_board *board = &bench->board;
-    struct bsmp_state *state = &bench->state;
-    static const size_t variables[] = {0, 1, 2, SIZE_MAX};
-    for (size_t i = 0; i < sizeof variables / sizeof variables[0]; i++) {
-        struct bsmp_place place = bsmp_node_place(board, state, variables[i]);
-        check(place.refusal == BSMP_BOARD_UNUSABLE && place.offset == 0 && place.size == 0, name, "a place was given");
-        check_number(name, bsmp_node_value_signed(board, state, variables[i]).refusal, BSMP_BOARD_UNUSABLE);
-        check_number(name, bsmp_node_value_unsigned(board, state, variables[i]).refusal, BSMP_BOARD_UNUSABLE);
-        check_number(name, bsmp_node_store_signed(board, state, variables[i], INT64_MAX), BSMP_BOARD_UNUSABLE);
-        check_number(name, bsmp_node_store_unsigned(board, state, variables[i], UINT64_MAX), BSMP_BOARD_UNUSABLE);
-    }
-}
-
 static void try_wrong(int way, const struct wrong *wrong)
 {
-    static const uint8_t packet[] = {5, 0x20, 0, 2, 1, 0x66, 0x72}, bytes[4] = {0};
-    static const struct result result = {0, true, false, 0, "01 02"};
+    static const uint8_t bytes[4] = {0};
     struct bench bench;
     start(&bench);
     wrong->spoil(&bench);
-    uint64_t before = digest(&bench);
-    struct bsmp_outcome outcome = packet_by(way, &bench, packet, sizeof packet);
-    check_outcome(wrong->name, way, &bench, &outcome, packet, "refused 1");
-    outcome = result_by(way, &bench, &result);
-    check_outcome(wrong->name, way, &bench, &outcome, packet, "refused 1");
-    check_number(wrong->name, store_by(way, &bench, 0, bytes, 4), BSMP_BOARD_UNUSABLE);
-    check_number(wrong->name, fresh_by(way, &bench), BSMP_BOARD_UNUSABLE);
-    if (way == INLINE) try_wrong_values(&bench, wrong->name);
-    check(digest(&bench) == before, wrong->name, "a refusal changed something");
-    struct bsmp_signed_reading reading = bsmp_node_read_signed(&bench.board, 0, bytes, 4);
+    expect_unusable(&bench, way, wrong->name);
+    expect_no_fresh(&bench, way, wrong->name);
+    struct bsmp_signed_reading reading = bsmp_node_read_signed(&bench.board, 0, bytes, sizeof bytes);
     check_number(wrong->name, reading.refusal, wrong->of_variables ? BSMP_BOARD_UNUSABLE : 0);
     end(&bench);
 }
@@ -147,13 +140,13 @@ static void try_cut_records(void)
         struct bsmp_state *state = &bench.state;
         struct bsmp_outcome outcome = bsmp_packet(
             bench.variables, 3, &bench.curves[0].writable, numbers[i][0], &bench.functions[0].input, numbers[i][1],
-            &state->groups, 5, 0x81, 0, state->values, state->values_length, state->blocks, state->blocks_length, state->sums,
-            state->sums_length, packet, sizeof packet, bench.reply, bench.room);
+            &state->groups, 5, 0x81, 0, state->values, state->values_length, state->blocks, state->blocks_length, state->lengths,
+            state->length_count, state->sums, state->sums_length, packet, sizeof packet, bench.reply, bench.room);
         check_outcome("a record cut off", RAW, &bench, &outcome, packet, "refused 1");
         uint8_t refusal = bsmp_fresh_board(
             bench.variables, 3, &bench.curves[0].writable, numbers[i][0], &bench.functions[0].input, numbers[i][1],
-            &state->groups, state->values, state->values_length, state->blocks, state->blocks_length, state->sums,
-            state->sums_length);
+            &state->groups, state->values, state->values_length, state->blocks, state->blocks_length, state->lengths,
+            state->length_count, state->sums, state->sums_length);
         check_number("a record cut off", refusal, BSMP_BOARD_UNUSABLE);
         end(&bench);
     }

@@ -16,7 +16,7 @@ static void try_places(void)
         check_number("a place: offset", place.offset, tries[i].offset);
         check_number("a place: size", place.size, tries[i].size);
     }
-    check(digest(&bench) == before, "a place", "a store, a sum or the group table changed");
+    check(digest(&bench) == before, "a place", "a store, a length, a sum or the group table changed");
     end(&bench);
 }
 
@@ -40,7 +40,7 @@ static void try_values(void)
         check_number("an unsigned value", as_unsigned.refusal, tries[i].of_unsigned);
         check_number("an unsigned value", as_unsigned.number, as_unsigned.refusal ? 0 : 0x1234);
     }
-    check(digest(&bench) == before, "a value", "a store, a sum or the group table changed");
+    check(digest(&bench) == before, "a value", "a store, a length, a sum or the group table changed");
     end(&bench);
 }
 
@@ -111,7 +111,7 @@ static void try_last_place(void)
     check_number("the last place: size", place.size, 64);
     check_number("a long plain value", bsmp_node_value_signed(&bench.board, &bench.state, 63).refusal, BSMP_WRONG_KIND);
     check_number("a long plain store", bsmp_node_store_unsigned(&bench.board, &bench.state, 63, 0), BSMP_WRONG_KIND);
-    check(digest(&bench) == before, "the last place", "a store, a sum or the group table changed");
+    check(digest(&bench) == before, "the last place", "a store, a length, a sum or the group table changed");
     end(&bench);
 }
 

@@ -74,6 +74,7 @@ static void send(const uint8_t *bytes, size_t length)
 /* ---- The node ---- */
 
 static uint8_t values[BOARD_A_VALUES], blocks[BOARD_A_BLOCKS], sums[BOARD_A_SUMS], reply[BSMP_REPLY_ROOM];
+static uint16_t lengths[BOARD_A_LENGTHS];
 static struct bsmp_state state;
 
 /* Function 0 stands for a real board's work: 1000 divided by its input, most significant byte first, or error 1 if that is 0. */
@@ -106,7 +107,7 @@ static void fault(void)
 /* Between two packets a real board would store what it measured, by bsmp_node_store. */
 static void serve(void)
 {
-    if (board_a_fresh(&state, values, blocks, sums) != BSMP_NOT_REFUSED) fault();
+    if (board_a_fresh(&state, values, blocks, lengths, sums) != BSMP_NOT_REFUSED) fault();
     for (;;) {
         while (step != WHOLE) __asm__ volatile("wfi" ::: "memory");
         answer();
