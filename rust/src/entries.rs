@@ -9,8 +9,10 @@ use crate::{
 /// Carries out one packet and writes the reply, if one is due.
 ///
 /// `values` is the variables' store and `blocks` the curves' store, each of exactly the length that the records add up
-/// to. `sums` has 16 bytes for each curve, its sum: 0A reads it, 42 renews it, and a block write leaves it stale. Bit n
-/// of `busy` marks variable n as busy, so that it is neither read nor written. Refusals 1 to 6.
+/// to. `lengths` has one number for each block, curve after curve: how many bytes the block has, 1 to its curve's block
+/// size. A block write sets it, and a block read returns that many. `sums` has 16 bytes for each curve, its sum: 0A reads
+/// it, 42 renews it, and a block write leaves it stale. Bit n of `busy` marks variable n as busy, so that it is neither
+/// read nor written. Refusals 1 to 6.
 #[allow(clippy::too_many_arguments)]
 pub fn packet<'packet, 'reply>(
     table: &Table,
@@ -19,6 +21,7 @@ pub fn packet<'packet, 'reply>(
     busy: u64,
     values: &mut [u8],
     blocks: &mut [u8],
+    lengths: &mut [u16],
     sums: &mut [u8],
     packet: &'packet [u8],
     reply: &'reply mut [u8],
@@ -40,6 +43,8 @@ pub fn packet<'packet, 'reply>(
             values.len(),
             blocks.as_mut_ptr(),
             blocks.len(),
+            lengths.as_mut_ptr(),
+            lengths.len(),
             sums.as_mut_ptr(),
             sums.len(),
             packet.as_ptr(),
@@ -60,6 +65,7 @@ pub fn function_result<'reply>(
     groups: &Groups,
     values: &[u8],
     blocks: &[u8],
+    lengths: &[u16],
     sums: &[u8],
     function: FunctionNumber,
     due: bool,
@@ -81,6 +87,8 @@ pub fn function_result<'reply>(
             values.len(),
             blocks.as_ptr(),
             blocks.len(),
+            lengths.as_ptr(),
+            lengths.len(),
             sums.as_ptr(),
             sums.len(),
             function.0,
@@ -97,11 +105,13 @@ pub fn function_result<'reply>(
 }
 
 /// Stores a new value into any variable, read-only or busy too; only those bytes change. Refusals 1, 9 and 10.
+#[allow(clippy::too_many_arguments)]
 pub fn board_store(
     table: &Table,
     groups: &Groups,
     values: &mut [u8],
     blocks: &[u8],
+    lengths: &[u16],
     sums: &[u8],
     variable: VariableNumber,
     bytes: &[u8],
@@ -120,6 +130,8 @@ pub fn board_store(
             values.len(),
             blocks.as_ptr(),
             blocks.len(),
+            lengths.as_ptr(),
+            lengths.len(),
             sums.as_ptr(),
             sums.len(),
             variable.0,
@@ -130,9 +142,10 @@ pub fn board_store(
     done(refusal.into(), ())
 }
 
-/// Works out the sums of all curves from what they hold, and writes nothing else. Refusal 1.
+/// Makes all blocks full, works out the sums of all curves from them, and writes nothing else. Refusal 1.
 ///
-/// For a board that is switched on, before its first packet, and for one that changed its curves itself.
+/// For a board that is switched on, before its first packet. There is to be one length for each block; what it is doesn't
+/// matter.
 ///
 /// ```
 /// use cruachvel::{fresh_board, md5, Curve, Groups, Kind, Table, Variable};
@@ -140,8 +153,9 @@ pub fn board_store(
 /// let variables = [Variable::writable(1, Kind::Plain)];
 /// let curves = [Curve::read_only(4, 2), Curve::writable(1, 3)];
 /// let table = Table::new(&variables, &curves, &[]);
-/// let (blocks, mut sums) = (b"heat 40 spi", [0; 2 * 16]);
-/// fresh_board(&table, &Groups::NONE, &[0], blocks, &mut sums)?;
+/// let (blocks, mut lengths, mut sums) = (b"heat 40 spi", [0; 2 + 3], [0; 2 * 16]);
+/// fresh_board(&table, &Groups::NONE, &[0], blocks, &mut lengths, &mut sums)?;
+/// assert_eq!(lengths, [4, 4, 1, 1, 1]);
 /// assert_eq!(sums[..], [md5(b"heat 40 "), md5(b"spi")].concat());
 /// # Ok::<(), cruachvel::Refusal>(())
 /// ```
@@ -150,6 +164,7 @@ pub fn fresh_board(
     groups: &Groups,
     values: &[u8],
     blocks: &[u8],
+    lengths: &mut [u16],
     sums: &mut [u8],
 ) -> Result<(), Refusal> {
     // SAFETY: as for `packet`.
@@ -166,6 +181,8 @@ pub fn fresh_board(
             values.len(),
             blocks.as_ptr(),
             blocks.len(),
+            lengths.as_mut_ptr(),
+            lengths.len(),
             sums.as_mut_ptr(),
             sums.len(),
         )
