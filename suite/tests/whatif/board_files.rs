@@ -26,6 +26,7 @@ fn a_board_file_says_all_that_a_board_has() {
         curve read-only 2 3 bytes 01 02 03
         curve writable 1 2 bytes 0A0B
         curve writable 1 1
+        length 0 1 1
         sum 1 00 01 02 03 04 05 06 07 08 09 0A 0B 0C 0D 0E 0F
         function 15 0
         function 0 3
@@ -38,7 +39,8 @@ fn a_board_file_says_all_that_a_board_has() {
     assert_eq!(lent.curves, [0, 2, 3, 1, 1, 2, 1, 1, 1]);
     assert_eq!(lent.blocks, [1, 2, 3, 0, 0, 0, 0x0A, 0x0B, 0]);
     let given = std::array::from_fn(|place| place as u8);
-    let sums = [md5(&[1, 2, 3, 0, 0, 0]), given, md5(&[0])];
+    assert_eq!(lent.lengths, [2, 1, 2, 1, 1, 1]);
+    let sums = [md5(&[1, 2, 3, 0, 0]), given, md5(&[0])];
     assert_eq!(lent.sums, sums.concat());
     assert_eq!(lent.functions, [15, 0, 0, 3]);
     assert_eq!(
@@ -71,6 +73,26 @@ fn a_board_file_may_describe_what_01_refuses() {
         (
             "variable writable 1 plain\ngroup 0 4",
             "group 3 has variables that are not declared: 4",
+        ),
+        (
+            "variable writable 1 plain\ncurve writable 1 1\ncurve writable 4 2\nlength 1 1 5",
+            "block 1 of curve 1 has length 5; 1 to 4 are allowed",
+        ),
+        (
+            "variable writable 1 plain\ncurve writable 4 2\nlengths 4",
+            "1 length for 2 blocks; each block has one",
+        ),
+        (
+            "variable writable 1 plain\ncurve writable 1 65536\nlengths 1*65535 1*2",
+            "65,537 lengths for 65,536 blocks; each block has one",
+        ),
+        (
+            "variable writable 1 plain\nlengths 1",
+            "1 length for 0 blocks; each block has one",
+        ),
+        (
+            "variable writable 1 plain\ncurve writable 1 4294967295\nlength 0 4294967294 1",
+            "curve 0 has 4,294,967,295 blocks; 1 to 65,536 are allowed",
         ),
         (
             "variable writable 1 plain\ncurve writable 4 2\nsums 00*15",
@@ -111,7 +133,7 @@ fn a_board_file_may_describe_what_01_refuses() {
 }
 
 const MISTAKES: &[(&str, &str)] = &[
-        ("addres 5", "line 2: \"addres\" is none of address, multicast, variable, curve, sum, function, group, busy, values, blocks and sums"),
+        ("addres 5", "line 2: \"addres\" is none of address, multicast, variable, curve, length, sum, function, group, busy, values, blocks, lengths and sums"),
         ("address", "line 2: the address is missing"),
         ("address 256", "line 2: the address can't be 256: what the node is lent has room for 0 to 255 there"),
         ("address -1", "line 2: the address can't be -1: what the node is lent has room for 0 to 255 there"),
@@ -124,6 +146,16 @@ const MISTAKES: &[(&str, &str)] = &[
         ("busy 0\nbusy 1", "line 3: a board has one line with busy"),
         ("values\nvalues", "line 3: a board has one line with values"),
         ("blocks 01\nblocks 01", "line 3: a board has one line with blocks"),
+        ("lengths 4\nlengths 4", "line 3: a board has one line with lengths"),
+        ("lengths 4 65536", "line 2: a length can't be 65536: what the node is lent has room for 0 to 65535 there"),
+        ("lengths 4 four", "line 2: a length is a number, and not \"four\""),
+        ("lengths 4*many", "line 2: \"many\" is no number that can stand here"),
+        ("length 0 0", "line 2: the length is missing"),
+        ("length 0 0 65536", "line 2: the length can't be 65536: what the node is lent has room for 0 to 65535 there"),
+        ("length 0 0 1 1", "line 2: \"1\" is too much"),
+        ("length 0 0 1\nlength 0 1 1\nlength 0 0 1", "line 4: block 0 of curve 0 has one line with its length"),
+        ("address 5\nlength 0 0 1", "line 3: there is no curve 0: the board has none"),
+        ("address 5\ncurve writable 1 2\nlength 0 2 1", "line 4: there is no block 2: the curve has 0 to 1"),
         ("sums\nsums 01", "line 3: a board has one line with sums"),
         ("sum", "line 2: the curve is missing"),
         ("sum 0 00*15", "line 2: a sum has 16 bytes, and 15 are given"),
