@@ -175,6 +175,21 @@ pub fn block_text(lent: &Lent, number: usize, block: usize) -> String {
     }
 }
 
+/// Lengths as a board file takes them: a word for each, or for neighbours that are alike, up to the most that a word can stand for.
+pub fn length_words(lengths: &[u16]) -> Vec<String> {
+    let (mut words, mut rest) = (Vec::new(), lengths);
+    while let Some(length) = rest.first() {
+        let alike = rest.iter().take_while(|other| *other == length);
+        let count = alike.count().min(u16::MAX.into());
+        words.push(match count {
+            1 => length.to_string(),
+            _ => format!("{}*{}", length, count),
+        });
+        rest = &rest[count..];
+    }
+    words
+}
+
 /// What a curve's sum is of.
 pub fn sum_text(curve: usize, stale: bool) -> String {
     if stale {
