@@ -6,6 +6,21 @@ use crate::{
     SUM_SIZE,
 };
 
+// Calls an exported function that takes the table first, each list of its records with its length.
+macro_rules! with_table {
+    ($function:path, $table:expr, $($rest:expr),* $(,)?) => {
+        $function(
+            $table.variables.as_ptr(),
+            $table.variables.len(),
+            $table.curves.as_ptr(),
+            $table.curves.len(),
+            $table.functions.as_ptr(),
+            $table.functions.len(),
+            $($rest),*
+        )
+    };
+}
+
 /// Carries out one packet and writes the reply, if one is due.
 ///
 /// `values` is the variables' store and `blocks` the curves' store, each of exactly the length that the records add up
@@ -28,13 +43,9 @@ pub fn packet<'packet, 'reply>(
 ) -> Outcome<'packet, 'reply> {
     // SAFETY: each pointer is a slice's or a reference's, with its length; Rust's borrows keep what is written apart.
     let told = unsafe {
-        raw::bsmp_packet(
-            table.variables.as_ptr(),
-            table.variables.len(),
-            table.curves.as_ptr(),
-            table.curves.len(),
-            table.functions.as_ptr(),
-            table.functions.len(),
+        with_table!(
+            raw::bsmp_packet,
+            table,
             groups,
             address.own,
             address.multicast,
@@ -75,13 +86,9 @@ pub fn function_result<'reply>(
     let (failed, error, output) = ran.numbers();
     // SAFETY: as for `packet`.
     let told = unsafe {
-        raw::bsmp_function_result(
-            table.variables.as_ptr(),
-            table.variables.len(),
-            table.curves.as_ptr(),
-            table.curves.len(),
-            table.functions.as_ptr(),
-            table.functions.len(),
+        with_table!(
+            raw::bsmp_function_result,
+            table,
             groups,
             values.as_ptr(),
             values.len(),
@@ -118,13 +125,9 @@ pub fn board_store(
 ) -> Result<(), Refusal> {
     // SAFETY: as for `packet`.
     let refusal = unsafe {
-        raw::bsmp_board_store(
-            table.variables.as_ptr(),
-            table.variables.len(),
-            table.curves.as_ptr(),
-            table.curves.len(),
-            table.functions.as_ptr(),
-            table.functions.len(),
+        with_table!(
+            raw::bsmp_board_store,
+            table,
             groups,
             values.as_mut_ptr(),
             values.len(),
@@ -169,13 +172,9 @@ pub fn fresh_board(
 ) -> Result<(), Refusal> {
     // SAFETY: as for `packet`.
     let refusal = unsafe {
-        raw::bsmp_fresh_board(
-            table.variables.as_ptr(),
-            table.variables.len(),
-            table.curves.as_ptr(),
-            table.curves.len(),
-            table.functions.as_ptr(),
-            table.functions.len(),
+        with_table!(
+            raw::bsmp_fresh_board,
+            table,
             groups,
             values.as_ptr(),
             values.len(),

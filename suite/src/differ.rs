@@ -227,7 +227,7 @@ impl Differ {
              proved node: {}\n\
              second node: {}\n\
              first place where the curves' stores differ: {:?}\n\
-             first length that differs, on the proved node and on the second: {:?}",
+             first block whose lengths differ: {:?}",
             self.seed,
             self.tally.calls + 1,
             what,
@@ -243,19 +243,14 @@ impl Differ {
                 &second.groups(),
                 [&second.values, &second.sums, &second.buffer]
             ),
-            proved
-                .blocks
-                .iter()
-                .zip(&second.blocks)
-                .position(|(a, b)| a != b),
-            proved
-                .lengths
-                .iter()
-                .zip(&second.lengths)
-                .enumerate()
-                .find(|(_, (a, b))| a != b),
+            first_apart(&proved.blocks, &second.blocks),
+            first_apart(&proved.lengths, &second.lengths),
         ))
     }
+}
+
+fn first_apart<T: PartialEq>(one: &[T], other: &[T]) -> Option<usize> {
+    one.iter().zip(other).position(|(a, b)| a != b)
 }
 
 fn board(second: &SecondLent) -> String {

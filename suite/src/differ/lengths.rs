@@ -16,6 +16,20 @@ pub(super) enum Like {
 }
 
 impl Like {
+    /// Those that make the board unusable.
+    const WRONG: [Like; 4] = [Like::Zero, Like::Long, Like::TooFew, Like::TooMany];
+
+    fn text(self) -> &'static str {
+        match self {
+            Like::Full => "full blocks",
+            Like::Short => "a block that isn't full",
+            Like::Zero => "a length of 0",
+            Like::Long => "a length over its block size",
+            Like::TooFew => "too few lengths",
+            Like::TooMany => "too many lengths",
+        }
+    }
+
     fn of(second: &SecondLent) -> Like {
         let lent = &second.lent;
         let blocks = lent.length_place(lent.curves.len() / 3).start;
@@ -141,30 +155,31 @@ impl Lengths {
     pub(super) fn text(&self) -> String {
         let [[shorter, longer], [quiet_shorter, quiet_longer]] = self.written;
         let [taken, refused] = self.fresh;
-        let wrong = [Like::Zero, Like::Long, Like::TooFew, Like::TooMany];
-        let [zero, long, few, many] = wrong.map(|like| self.refused[like as usize]);
+        let of = |counts: [u64; 6], likes: &[Like]| -> u64 {
+            likes.iter().map(|like| counts[*like as usize]).sum()
+        };
+        let wrong = Like::WRONG.map(|like| {
+            let count = self.refused[like as usize];
+            format!("{} times for {}", count, like.text())
+        });
         format!(
-            "40 answered {} times, {} of them with a block that isn't full; 41 made {} blocks shorter and {} longer, {} by multicast; 42 covered blocks that aren't full {} times; {} fresh boards filled blocks, {} of them from lengths out of range, {} refused for their count; refused with 1 for a length of 0 {} times, for one over its block size {} times, for too few lengths {} times, for too many {} times",
+            "40 answered {} times, {} of them with a block that isn't full; 41 made {} blocks shorter and {} longer, {} of them by multicast; 42 covered blocks that aren't full {} times; {} fresh boards filled blocks, {} of them from lengths out of range, {} were refused for their count; refused with 1 {}",
             self.read[0] + self.read[1],
             self.read[1],
             shorter + quiet_shorter,
             longer + quiet_longer,
             quiet_shorter + quiet_longer,
             self.renewed[1],
-            taken[Like::Short as usize] + taken[Like::Zero as usize] + taken[Like::Long as usize],
-            taken[Like::Zero as usize] + taken[Like::Long as usize],
-            refused[Like::TooFew as usize] + refused[Like::TooMany as usize],
-            zero,
-            long,
-            few,
-            many
+            of(taken, &[Like::Short, Like::Zero, Like::Long]),
+            of(taken, &[Like::Zero, Like::Long]),
+            of(refused, &[Like::TooFew, Like::TooMany]),
+            wrong.join(", ")
         )
     }
 
     /// What never came up.
     pub(super) fn not_met(&self) -> Vec<String> {
-        let [taken, refused] = self.fresh;
-        let counts = [
+        let calls = [
             ("40 of a full block", self.read[0]),
             ("40 of a block that isn't full", self.read[1]),
             ("41 that shortens", self.written[0][0]),
@@ -174,39 +189,20 @@ impl Lengths {
             ("41 that leaves the length", self.kept),
             ("42 of full blocks alone", self.renewed[0]),
             ("42 with a block that isn't full", self.renewed[1]),
-            ("a fresh board of full blocks", taken[Like::Full as usize]),
-            ("a fresh board that fills", taken[Like::Short as usize]),
-            (
-                "a fresh board with a length of 0",
-                taken[Like::Zero as usize],
-            ),
-            (
-                "a fresh board with a length too long",
-                taken[Like::Long as usize],
-            ),
-            (
-                "a fresh board with too few lengths",
-                refused[Like::TooFew as usize],
-            ),
-            (
-                "a fresh board with too many lengths",
-                refused[Like::TooMany as usize],
-            ),
-            ("a length of 0 refused", self.refused[Like::Zero as usize]),
-            (
-                "a length too long refused",
-                self.refused[Like::Long as usize],
-            ),
-            (
-                "too few lengths refused",
-                self.refused[Like::TooFew as usize],
-            ),
-            (
-                "too many lengths refused",
-                self.refused[Like::TooMany as usize],
-            ),
         ];
-        let missing = counts.iter().filter(|(_, count)| *count == 0);
-        missing.map(|(name, _)| name.to_string()).collect()
+        let calls = calls.map(|(name, count)| (name.to_string(), count));
+        let named = |counts: [u64; 6], name: &'static str| {
+            move |like: Like| (format!("{} {}", name, like.text()), counts[like as usize])
+        };
+        let [taken, refused] = self.fresh;
+        let in_number = [Like::Full, Like::Short, Like::Zero, Like::Long];
+        let fresh = in_number.map(named(taken, "a fresh board with"));
+        let not_fresh = [Like::TooFew, Like::TooMany].map(named(refused, "a fresh board with"));
+        let others = Like::WRONG.map(named(self.refused, "another call with"));
+        let all = calls.into_iter().chain(fresh).chain(not_fresh);
+        all.chain(others)
+            .filter(|(_, count)| *count == 0)
+            .map(|(name, _)| name)
+            .collect()
     }
 }

@@ -2,6 +2,7 @@
 use crate::{board_a_idle, explained};
 use cruachvel::md5;
 use suite::whatif::board_file::parse;
+use suite::whatif::things::length_words;
 use suite::whatif::{table, Setting};
 
 // The first block of code in a page.
@@ -50,83 +51,85 @@ fn a_board_file_says_all_that_a_board_has() {
     assert_eq!(table::broken(&lent), None);
 }
 
+// Lines of a board that has an address already, and why the node refuses it.
+const REFUSED: &[(&str, &str)] = &[
+    (
+        "variable writable 128 plain",
+        "variable 0 has 128 bytes; 1 to 127 are allowed",
+    ),
+    (
+        "variable writable 3 signed big",
+        "variable 0 is a number of 3 bytes; a number has 1, 2, 4 or 8",
+    ),
+    (
+        "variable writable 1 plain\nvalues",
+        "the variables' store has 0 bytes; the records add up to 1",
+    ),
+    (
+        "variable writable 1 plain\ncurve writable 4096 17",
+        "the curves have 69,632 bytes; at most 65,536 are allowed",
+    ),
+    ("variable writable 1 plain\ngroup", "group 3 is empty"),
+    (
+        "variable writable 1 plain\ngroup 0 4",
+        "group 3 has variables that are not declared: 4",
+    ),
+    (
+        "variable writable 1 plain\ncurve writable 1 1\ncurve writable 4 2\nlength 1 1 5",
+        "block 1 of curve 1 has length 5; 1 to 4 are allowed",
+    ),
+    (
+        "variable writable 1 plain\ncurve writable 4 2\nlengths 4",
+        "1 length for 2 blocks; each block has one",
+    ),
+    (
+        "variable writable 1 plain\ncurve writable 1 65536\nlengths 1*65535 1*2",
+        "65,537 lengths for 65,536 blocks; each block has one",
+    ),
+    (
+        "variable writable 1 plain\nlengths 1",
+        "1 length for 0 blocks; each block has one",
+    ),
+    (
+        "variable writable 1 plain\ncurve writable 1 4294967295\nlength 0 4294967294 1",
+        "curve 0 has 4,294,967,295 blocks; 1 to 65,536 are allowed",
+    ),
+    (
+        "variable writable 1 plain\ncurve writable 4 2\nsums 00*15",
+        "the sums' store has 15 bytes; the records add up to 16",
+    ),
+    (
+        "variable writable 1 plain\nsums 00*16",
+        "the sums' store has 16 bytes; the records add up to 0",
+    ),
+    ("", "0 variables; 1 to 64 are allowed"),
+    (
+        "variable writable 3 signed big value -3",
+        "variable 0 is a number of 3 bytes; a number has 1, 2, 4 or 8",
+    ),
+    (
+        "variable writable 0 plain",
+        "variable 0 has 0 bytes; 1 to 127 are allowed",
+    ),
+    (
+        "variable writable 1 plain\nfunction 16 255",
+        "function 0 has 16 bytes of input; 0 to 15 are allowed",
+    ),
+    (
+        "variable writable 1 plain\ncurve writable 4294967295 2 bytes 0102",
+        "curve 0 has blocks of 4,294,967,295 bytes; 1 to 4,096 are allowed",
+    ),
+    (
+        "variable writable 1 plain\ngroup 0\ngroup 0\ngroup 0\ngroup 0\ngroup 0\ngroup 0",
+        "6 made groups; 0 to 5 are allowed",
+    ),
+];
+
 #[test]
 fn a_board_file_may_describe_what_01_refuses() {
-    let wrong = [
-        (
-            "variable writable 128 plain",
-            "variable 0 has 128 bytes; 1 to 127 are allowed",
-        ),
-        (
-            "variable writable 3 signed big",
-            "variable 0 is a number of 3 bytes; a number has 1, 2, 4 or 8",
-        ),
-        (
-            "variable writable 1 plain\nvalues",
-            "the variables' store has 0 bytes; the records add up to 1",
-        ),
-        (
-            "variable writable 1 plain\ncurve writable 4096 17",
-            "the curves have 69,632 bytes; at most 65,536 are allowed",
-        ),
-        ("variable writable 1 plain\ngroup", "group 3 is empty"),
-        (
-            "variable writable 1 plain\ngroup 0 4",
-            "group 3 has variables that are not declared: 4",
-        ),
-        (
-            "variable writable 1 plain\ncurve writable 1 1\ncurve writable 4 2\nlength 1 1 5",
-            "block 1 of curve 1 has length 5; 1 to 4 are allowed",
-        ),
-        (
-            "variable writable 1 plain\ncurve writable 4 2\nlengths 4",
-            "1 length for 2 blocks; each block has one",
-        ),
-        (
-            "variable writable 1 plain\ncurve writable 1 65536\nlengths 1*65535 1*2",
-            "65,537 lengths for 65,536 blocks; each block has one",
-        ),
-        (
-            "variable writable 1 plain\nlengths 1",
-            "1 length for 0 blocks; each block has one",
-        ),
-        (
-            "variable writable 1 plain\ncurve writable 1 4294967295\nlength 0 4294967294 1",
-            "curve 0 has 4,294,967,295 blocks; 1 to 65,536 are allowed",
-        ),
-        (
-            "variable writable 1 plain\ncurve writable 4 2\nsums 00*15",
-            "the sums' store has 15 bytes; the records add up to 16",
-        ),
-        (
-            "variable writable 1 plain\nsums 00*16",
-            "the sums' store has 16 bytes; the records add up to 0",
-        ),
-        ("", "0 variables; 1 to 64 are allowed"),
-        (
-            "variable writable 3 signed big value -3",
-            "variable 0 is a number of 3 bytes; a number has 1, 2, 4 or 8",
-        ),
-        (
-            "variable writable 0 plain",
-            "variable 0 has 0 bytes; 1 to 127 are allowed",
-        ),
-        (
-            "variable writable 1 plain\nfunction 16 255",
-            "function 0 has 16 bytes of input; 0 to 15 are allowed",
-        ),
-        (
-            "variable writable 1 plain\ncurve writable 4294967295 2 bytes 0102",
-            "curve 0 has blocks of 4,294,967,295 bytes; 1 to 4,096 are allowed",
-        ),
-        (
-            "variable writable 1 plain\ngroup 0\ngroup 0\ngroup 0\ngroup 0\ngroup 0\ngroup 0",
-            "6 made groups; 0 to 5 are allowed",
-        ),
-    ];
-    for (lines, reason) in wrong {
+    for (lines, reason) in REFUSED {
         let setting = parse(&format!("address 5\n{}", lines)).expect(lines);
-        assert_eq!(table::broken(&setting.lent).as_deref(), Some(reason));
+        assert_eq!(table::broken(&setting.lent).as_deref(), Some(*reason));
         let text = explained(&mut setting.clone(), "05 00 00 00 FB");
         assert!(text.contains("outcome   refused with 1, board unusable"));
     }
@@ -180,6 +183,18 @@ const MISTAKES: &[(&str, &str)] = &[
         ("busy 64", "line 2: a variable is a number from 0 to 63, and not \"64\""),
         ("busy 0", "the line with the address is missing"),
     ];
+
+// Some words stand for many lengths, as many as fit into one.
+#[test]
+fn lengths_are_read_as_they_are_written() {
+    let of_many = [vec![1; 65537], vec![2, 2, 3], vec![1; 65535]].concat();
+    for lengths in [vec![], vec![4], vec![4, 4, 0, 65535, 4], of_many] {
+        let words = length_words(&lengths).join(" ");
+        let setting = parse(&format!("address 5\nlengths {}", words)).expect("a board");
+        assert_eq!(setting.lent.lengths, lengths);
+    }
+    assert_eq!(length_words(&[4, 4, 4, 2, 4]), ["4*3", "2", "4"]);
+}
 
 #[test]
 fn mistakes_in_a_board_file_are_told_with_their_line() {
