@@ -180,7 +180,7 @@ fn given_lengths(lent: &Lent) -> Option<Vec<Vec<String>>> {
         }
     }
     let one_each = lent.lengths.len() == full_lengths(&lent.curves).len();
-    (one_each && rows.len() <= SHOWN).then(|| rows)
+    (one_each && rows.len() <= SHOWN).then_some(rows)
 }
 
 // Lengths that have no line each.

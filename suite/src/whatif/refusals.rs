@@ -40,7 +40,7 @@ pub fn amended(refusal: Refusal, call: &Call, setting: &Setting) -> Option<&'sta
         (Refusal::BoardUnusable, _) => table::breaks_amendment(&setting.lent),
         _ => false,
     };
-    breaks.then(|| &LENGTHS_AND_SUMS)
+    breaks.then_some(&LENGTHS_AND_SUMS)
 }
 
 /// All words of change requests that give a refusal.
