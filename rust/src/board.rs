@@ -7,7 +7,7 @@ pub const MOST_VARIABLES: usize = 64;
 pub const MOST_VALUE_BYTES: usize = 4096;
 /// The most curves that a board may have.
 pub const MOST_CURVES: usize = 8;
-/// The most blocks that a curve may have.
+/// The most blocks that a curve may have, and so all curves together.
 pub const MOST_BLOCKS: usize = 65536;
 /// The most bytes that all curves together may have.
 pub const MOST_CURVE_BYTES: usize = 65536;
@@ -243,6 +243,14 @@ impl Board {
             sum.saturating_add(u64::from(curve.block_size) * u64::from(curve.blocks))
         });
         bytes.min(MOST_CURVE_BYTES as u64) as usize
+    }
+
+    /// How many blocks the curves have together, and so how many lengths there are. Past the most that 01 allows no count is
+    /// right, and the most is given.
+    pub fn length_count(&self) -> usize {
+        let blocks = self.curves.iter().map(|curve| u64::from(curve.blocks));
+        let count = blocks.fold(0, u64::saturating_add);
+        count.min(MOST_BLOCKS as u64) as usize
     }
 
     /// The length of the curves' sums, 16 bytes each. Past the most that 01 allows no length is right, and the most is given.

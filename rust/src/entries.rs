@@ -6,11 +6,28 @@ use crate::{
     SUM_SIZE,
 };
 
+// Calls an exported function that takes the table first, each list of its records with its length.
+macro_rules! with_table {
+    ($function:path, $table:expr, $($rest:expr),* $(,)?) => {
+        $function(
+            $table.variables.as_ptr(),
+            $table.variables.len(),
+            $table.curves.as_ptr(),
+            $table.curves.len(),
+            $table.functions.as_ptr(),
+            $table.functions.len(),
+            $($rest),*
+        )
+    };
+}
+
 /// Carries out one packet and writes the reply, if one is due.
 ///
 /// `values` is the variables' store and `blocks` the curves' store, each of exactly the length that the records add up
-/// to. `sums` has 16 bytes for each curve, its sum: 0A reads it, 42 renews it, and a block write leaves it stale. Bit n
-/// of `busy` marks variable n as busy, so that it is neither read nor written. Refusals 1 to 6.
+/// to. `lengths` has one number for each block, curve after curve: how many bytes the block has, 1 to its curve's block
+/// size. A block write sets it, and a block read returns that many. `sums` has 16 bytes for each curve, its sum: 0A reads
+/// it, 42 renews it, and a block write leaves it stale. Bit n of `busy` marks variable n as busy, so that it is neither
+/// read nor written. Refusals 1 to 6.
 #[allow(clippy::too_many_arguments)]
 pub fn packet<'packet, 'reply>(
     table: &Table,
@@ -19,19 +36,16 @@ pub fn packet<'packet, 'reply>(
     busy: u64,
     values: &mut [u8],
     blocks: &mut [u8],
+    lengths: &mut [u16],
     sums: &mut [u8],
     packet: &'packet [u8],
     reply: &'reply mut [u8],
 ) -> Outcome<'packet, 'reply> {
     // SAFETY: each pointer is a slice's or a reference's, with its length; Rust's borrows keep what is written apart.
     let told = unsafe {
-        raw::bsmp_packet(
-            table.variables.as_ptr(),
-            table.variables.len(),
-            table.curves.as_ptr(),
-            table.curves.len(),
-            table.functions.as_ptr(),
-            table.functions.len(),
+        with_table!(
+            raw::bsmp_packet,
+            table,
             groups,
             address.own,
             address.multicast,
@@ -40,6 +54,8 @@ pub fn packet<'packet, 'reply>(
             values.len(),
             blocks.as_mut_ptr(),
             blocks.len(),
+            lengths.as_mut_ptr(),
+            lengths.len(),
             sums.as_mut_ptr(),
             sums.len(),
             packet.as_ptr(),
@@ -60,6 +76,7 @@ pub fn function_result<'reply>(
     groups: &Groups,
     values: &[u8],
     blocks: &[u8],
+    lengths: &[u16],
     sums: &[u8],
     function: FunctionNumber,
     due: bool,
@@ -69,18 +86,16 @@ pub fn function_result<'reply>(
     let (failed, error, output) = ran.numbers();
     // SAFETY: as for `packet`.
     let told = unsafe {
-        raw::bsmp_function_result(
-            table.variables.as_ptr(),
-            table.variables.len(),
-            table.curves.as_ptr(),
-            table.curves.len(),
-            table.functions.as_ptr(),
-            table.functions.len(),
+        with_table!(
+            raw::bsmp_function_result,
+            table,
             groups,
             values.as_ptr(),
             values.len(),
             blocks.as_ptr(),
             blocks.len(),
+            lengths.as_ptr(),
+            lengths.len(),
             sums.as_ptr(),
             sums.len(),
             function.0,
@@ -97,29 +112,29 @@ pub fn function_result<'reply>(
 }
 
 /// Stores a new value into any variable, read-only or busy too; only those bytes change. Refusals 1, 9 and 10.
+#[allow(clippy::too_many_arguments)]
 pub fn board_store(
     table: &Table,
     groups: &Groups,
     values: &mut [u8],
     blocks: &[u8],
+    lengths: &[u16],
     sums: &[u8],
     variable: VariableNumber,
     bytes: &[u8],
 ) -> Result<(), Refusal> {
     // SAFETY: as for `packet`.
     let refusal = unsafe {
-        raw::bsmp_board_store(
-            table.variables.as_ptr(),
-            table.variables.len(),
-            table.curves.as_ptr(),
-            table.curves.len(),
-            table.functions.as_ptr(),
-            table.functions.len(),
+        with_table!(
+            raw::bsmp_board_store,
+            table,
             groups,
             values.as_mut_ptr(),
             values.len(),
             blocks.as_ptr(),
             blocks.len(),
+            lengths.as_ptr(),
+            lengths.len(),
             sums.as_ptr(),
             sums.len(),
             variable.0,
@@ -130,9 +145,10 @@ pub fn board_store(
     done(refusal.into(), ())
 }
 
-/// Works out the sums of all curves from what they hold, and writes nothing else. Refusal 1.
+/// Makes all blocks full, works out the sums of all curves from them, and writes nothing else. Refusal 1.
 ///
-/// For a board that is switched on, before its first packet, and for one that changed its curves itself.
+/// For a board that is switched on, before its first packet. There is to be one length for each block; what it is doesn't
+/// matter.
 ///
 /// ```
 /// use cruachvel::{fresh_board, md5, Curve, Groups, Kind, Table, Variable};
@@ -140,8 +156,9 @@ pub fn board_store(
 /// let variables = [Variable::writable(1, Kind::Plain)];
 /// let curves = [Curve::read_only(4, 2), Curve::writable(1, 3)];
 /// let table = Table::new(&variables, &curves, &[]);
-/// let (blocks, mut sums) = (b"heat 40 spi", [0; 2 * 16]);
-/// fresh_board(&table, &Groups::NONE, &[0], blocks, &mut sums)?;
+/// let (blocks, mut lengths, mut sums) = (b"heat 40 spi", [0; 2 + 3], [0; 2 * 16]);
+/// fresh_board(&table, &Groups::NONE, &[0], blocks, &mut lengths, &mut sums)?;
+/// assert_eq!(lengths, [4, 4, 1, 1, 1]);
 /// assert_eq!(sums[..], [md5(b"heat 40 "), md5(b"spi")].concat());
 /// # Ok::<(), cruachvel::Refusal>(())
 /// ```
@@ -150,22 +167,21 @@ pub fn fresh_board(
     groups: &Groups,
     values: &[u8],
     blocks: &[u8],
+    lengths: &mut [u16],
     sums: &mut [u8],
 ) -> Result<(), Refusal> {
     // SAFETY: as for `packet`.
     let refusal = unsafe {
-        raw::bsmp_fresh_board(
-            table.variables.as_ptr(),
-            table.variables.len(),
-            table.curves.as_ptr(),
-            table.curves.len(),
-            table.functions.as_ptr(),
-            table.functions.len(),
+        with_table!(
+            raw::bsmp_fresh_board,
+            table,
             groups,
             values.as_ptr(),
             values.len(),
             blocks.as_ptr(),
             blocks.len(),
+            lengths.as_mut_ptr(),
+            lengths.len(),
             sums.as_mut_ptr(),
             sums.len(),
         )

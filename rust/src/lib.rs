@@ -13,8 +13,10 @@
 //! let address = Address { own: 5, multicast: 0x81 };
 //! let (mut groups, mut values, mut reply) = (Groups::NONE, [0x5A], [0; REPLY_ROOM]);
 //! let invert = [0x05, 0x24, 0x00, 0x03, 0x00, 0x54, 0x0F, 0x71]; // invert the low four bits of variable 0
-//! let (curves, sums) = (&mut [], &mut []); // this board has none
-//! let outcome = packet(&table, &mut groups, address, 0, &mut values, curves, sums, &invert, &mut reply);
+//! let (blocks, lengths, sums) = (&mut [], &mut [], &mut []); // this board has no curves
+//! let outcome = packet(
+//!     &table, &mut groups, address, 0, &mut values, blocks, lengths, sums, &invert, &mut reply,
+//! );
 //! assert_eq!(outcome, Outcome::Reply(&[0x00, 0xE0, 0x00, 0x00, 0x20]));
 //! assert_eq!(values, [0x55]);
 //! ```

@@ -9,8 +9,10 @@ use std::ops::Range;
 pub struct State {
     /// The variables' store: the bytes of one variable start where those before it end.
     pub values: Vec<u8>,
-    /// The curves' store, block after block.
+    /// The curves' store, block after block, each in the room of a full one. Bytes past a block's length are stale.
     pub blocks: Vec<u8>,
+    /// How many bytes each block has, curve after curve, block after block: 1 to its curve's block size.
+    pub lengths: Vec<u16>,
     /// The curves' sums, 16 bytes each. A sum may be stale: it is that of what the curve held when it was worked out last.
     pub sums: Vec<u8>,
     /// The group table.
@@ -18,26 +20,28 @@ pub struct State {
 }
 
 impl State {
-    /// All bytes 0 and no made groups, with stores of the lengths that the board's records add up to, and the sums that
-    /// curves of zeros have. For a board that is refused the sums are 0 too.
+    /// All bytes 0 and no made groups, with stores of the lengths that the board's records add up to, all blocks full, and
+    /// the sums that curves of zeros have. For a board that is refused lengths and sums are 0 too.
     pub fn fresh(board: &Board) -> State {
         let mut state = State {
             values: vec![0; board.values_length()],
             blocks: vec![0; board.blocks_length()],
+            lengths: vec![0; board.length_count()],
             sums: vec![0; board.sums_length()],
             groups: Groups::NONE,
         };
         // Refused it changes nothing, and every call on the board will say so.
-        let _ = state.work_out_sums(board);
+        let _ = state.freshen(board);
         state
     }
 
-    fn work_out_sums(&mut self, board: &Board) -> Result<(), Refusal> {
+    fn freshen(&mut self, board: &Board) -> Result<(), Refusal> {
         entries::fresh_board(
             &board.table(),
             &self.groups,
             &self.values,
             &self.blocks,
+            &mut self.lengths,
             &mut self.sums,
         )
     }
@@ -90,7 +94,7 @@ impl State {
 /// ```
 ///
 /// Each curve has a sum, by which the line sees whether a download arrived. 0A reads it; a block write leaves it stale, and
-/// 42 renews it:
+/// 42 renews it. A block is as long as the last write made it, and the sum is of that many bytes:
 ///
 /// ```
 /// # use cruachvel::{md5, Address, Board, Curve, Kind, Node, Outcome, Variable, REPLY_ROOM};
@@ -109,6 +113,12 @@ impl State {
 /// if let Outcome::Reply(told) = node.packet(&[0x05, 0x0A, 0x00, 0x01, 0x00, 0xF0], &mut reply) {
 ///     assert_eq!(told[4..20], md5(b"WASH"));
 /// }
+///
+/// let block = [0x05, 0x41, 0x00, 0x06, 0x00, 0x00, 0x00, 0x44, 0x52, 0x59, 0xC5]; // DRY
+/// node.packet(&block, &mut reply);
+/// assert_eq!(node.state.lengths, [3]);
+/// node.packet(&[0x05, 0x42, 0x00, 0x01, 0x00, 0xB8], &mut reply);
+/// assert_eq!(node.state.sums, md5(b"DRY"));
 /// ```
 #[derive(Clone, Debug, PartialEq, Eq)]
 pub struct Node {
@@ -132,7 +142,7 @@ impl Node {
         Node::with_state(board, state)
     }
 
-    /// A node that starts from a given state, its sums too: [`Node::fresh`] works them out.
+    /// A node that starts from a given state, its lengths and sums too: [`Node::fresh`] sets both.
     pub fn with_state(board: Board, state: State) -> Node {
         Node {
             board,
@@ -141,10 +151,11 @@ impl Node {
         }
     }
 
-    /// Works out all sums from what the curves hold: once before the first packet of a node that was given a state, and
-    /// whenever the board itself changed curve bytes. Refusal 1.
+    /// Makes all blocks full and works out all sums: once before the first packet of a node that was given stores. A board
+    /// that changes curve bytes itself later sets that block's length too, and has the sum renewed by a packet of its own
+    /// (42), since this would fill the other blocks with their stale bytes. Refusal 1.
     pub fn fresh(&mut self) -> Result<(), Refusal> {
-        self.state.work_out_sums(&self.board)
+        self.state.freshen(&self.board)
     }
 
     /// Carries out one packet. Refusals 1 to 6.
@@ -160,6 +171,7 @@ impl Node {
             self.busy,
             &mut self.state.values,
             &mut self.state.blocks,
+            &mut self.state.lengths,
             &mut self.state.sums,
             packet,
             reply,
@@ -179,6 +191,7 @@ impl Node {
             &self.state.groups,
             &self.state.values,
             &self.state.blocks,
+            &self.state.lengths,
             &self.state.sums,
             function,
             due,
@@ -194,6 +207,7 @@ impl Node {
             &self.state.groups,
             &mut self.state.values,
             &self.state.blocks,
+            &self.state.lengths,
             &self.state.sums,
             variable,
             bytes,

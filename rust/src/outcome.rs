@@ -8,7 +8,8 @@ use std::fmt;
 #[derive(Clone, Copy, Debug, PartialEq, Eq, Hash)]
 #[repr(u8)]
 pub enum Refusal {
-    /// A record, store length (that of the sums too) or group breaks the table of 01.
+    /// A record, store length or group breaks the table of 01, or lengths and sums are not one for each block and each
+    /// curve, or a length is not 1 to its block size.
     BoardUnusable = 1,
     /// Own address or multicast byte breaks it.
     BadAddress = 2,

@@ -1,8 +1,8 @@
 //! The owned node and the types of the face.
 use cruachvel::{
     md5, Address, Board, Curve, Function, FunctionNumber, Groups, Kind, Node, Outcome, Ran,
-    Refusal, State, Variable, VariableNumber, MOST_CURVES, MOST_CURVE_BYTES, MOST_VALUE_BYTES,
-    REPLY_ROOM, SUM_SIZE,
+    Refusal, State, Variable, VariableNumber, MOST_BLOCKS, MOST_CURVES, MOST_CURVE_BYTES,
+    MOST_VALUE_BYTES, REPLY_ROOM, SUM_SIZE,
 };
 
 const SIGNED: VariableNumber = VariableNumber(0);
@@ -42,6 +42,7 @@ fn node_a() -> Node {
     let state = State {
         values,
         blocks: vec![0; 8],
+        lengths: vec![4, 4],
         sums: SUM.to_vec(),
         groups: Groups::NONE,
     };
@@ -90,6 +91,7 @@ fn refusals_have_the_numbers_and_words_of_01() {
 fn a_fresh_node_has_stores_of_the_lengths_that_its_records_add_up_to() {
     let mut node = Node::new(board_a());
     assert_eq!((node.state.values.len(), node.state.blocks.len()), (7, 8));
+    assert_eq!(node.state.lengths, [4, 4]);
     assert_eq!(node.state.sums, SUM);
     let version = Outcome::Reply(&[0x00, 0x01, 0x00, 0x03, 0x02, 0x14, 0x00, 0xE6]);
     let mut reply = [0; REPLY_ROOM];
@@ -192,9 +194,11 @@ fn numbers_that_can_t_be_stored_are_refused_and_change_nothing() {
 // Each leaves the variable records as they are, so that a reading alone would see nothing wrong.
 #[test]
 fn of_an_unusable_board_nothing_else_is_said() {
-    let spoils: [fn(&mut Node); 6] = [
+    let spoils: [fn(&mut Node); 8] = [
         |node| node.state.values.truncate(6),
         |node| node.state.blocks.push(0),
+        |node| node.state.lengths.truncate(1),
+        |node| node.state.lengths.push(4),
         |node| node.state.sums.truncate(15),
         |node| node.state.sums.extend(SUM),
         |node| node.state.groups.count = 6,
@@ -302,6 +306,7 @@ fn an_absurd_board_is_refused_by_each_call() {
         (node.state.values.len(), node.state.blocks.len()),
         (MOST_VALUE_BYTES, MOST_CURVE_BYTES)
     );
+    assert_eq!(node.state.lengths, [0; MOST_BLOCKS]);
     assert_eq!(node.state.sums, [0; MOST_CURVES * SUM_SIZE]);
     let unusable = Refusal::BoardUnusable;
     assert_eq!(node.packet(&[], &mut []), Outcome::Refused(unusable));
@@ -340,8 +345,57 @@ fn a_block_write_leaves_a_sum_stale_and_42_renews_it() {
             Outcome::Silence
         };
         assert_eq!(node.packet(&renew, &mut reply), expected);
-        assert_eq!(sum_read(&mut node), md5(&[0, 0, 0, 0, 0x66, 0x77, 0, 0]));
-        assert_eq!(node.state.sums, md5(&node.state.blocks));
+        assert_eq!(sum_read(&mut node), md5(&[0, 0, 0, 0, 0x66, 0x77]));
+        assert_eq!(node.state.sums, md5(&node.state.blocks[..6]));
+    }
+}
+
+// What 40 of block 1 is answered with, behind curve and block.
+fn block_read(node: &mut Node) -> Vec<u8> {
+    let read = [0x05, 0x40, 0x00, 0x03, 0x00, 0x00, 0x01, 0xB7];
+    let mut reply = [0; REPLY_ROOM];
+    match node.packet(&read, &mut reply) {
+        Outcome::Reply([0x00, 0x41, _, _, 0x00, 0x00, 0x01, block @ .., _]) => block.to_vec(),
+        other => panic!("no block: {:?}", other),
+    }
+}
+
+#[test]
+fn a_block_is_as_long_as_the_last_write_made_it() {
+    let mut node = node_a();
+    let mut reply = [0; REPLY_ROOM];
+    let write = [0x05, 0x41, 0x00, 0x05, 0x00, 0x00, 0x01, 0x66, 0x77, 0xD7];
+    assert_eq!(block_read(&mut node), [0; 4]);
+    assert_eq!(node.packet(&write, &mut reply), OK);
+    assert_eq!(block_read(&mut node), [0x66, 0x77]);
+    assert_eq!(node.state.lengths, [4, 2]);
+    let longer = [
+        0x05, 0x41, 0x00, 0x06, 0x00, 0x00, 0x01, 0x11, 0x22, 0x33, 0x4D,
+    ];
+    assert_eq!(node.packet(&longer, &mut reply), OK);
+    assert_eq!(block_read(&mut node), [0x11, 0x22, 0x33]);
+    assert_eq!(node.fresh(), Ok(()));
+    assert_eq!(node.state.lengths, [4, 4]);
+    assert_eq!(block_read(&mut node), [0x11, 0x22, 0x33, 0]);
+}
+
+// By all but a fresh board, which sets the lengths whatever they are.
+#[test]
+fn a_length_out_of_range_is_refused_until_the_board_is_fresh() {
+    for (block, length) in [(0, 0), (1, 0), (0, 5), (1, 5), (1, u16::MAX)] {
+        let mut node = node_a();
+        node.state.lengths[block] = length;
+        let spoilt = node.clone();
+        let unusable = Refusal::BoardUnusable;
+        let refused = Outcome::Refused(unusable);
+        assert_eq!(node.packet(&READ_SUM, &mut [0; REPLY_ROOM]), refused);
+        let result = node.function_result(FunctionNumber(0), true, Ran::Failed(0), &mut []);
+        assert_eq!(result, refused);
+        assert_eq!(node.store(PLAIN, &[1]), Err(unusable));
+        assert_eq!(node.value(PLAIN), Err(unusable));
+        assert_eq!(node, spoilt);
+        assert_eq!(node.fresh(), Ok(()));
+        assert_eq!(node, node_a());
     }
 }
 
@@ -357,13 +411,14 @@ fn a_read_only_curve_s_sum_is_renewed_too() {
 }
 
 #[test]
-fn a_given_state_gets_its_sums_by_fresh() {
+fn a_given_state_gets_its_lengths_and_sums_by_fresh() {
     let mut board = board_a();
     board.curves.push(Curve::read_only(3, 1));
     let mut node = Node::new(board);
     node.state.blocks = (1..=11).collect();
-    node.state.sums.fill(0xAA);
     let mut expected = node.clone();
+    node.state.lengths.fill(1);
+    node.state.sums.fill(0xAA);
     expected.state.sums = [md5(&[1, 2, 3, 4, 5, 6, 7, 8]), md5(&[9, 10, 11])].concat();
     assert_eq!(node.fresh(), Ok(()));
     assert_eq!(node, expected);

@@ -1,7 +1,7 @@
 //! Board A, and usable boards of every size up to 01's limits, drawn at random.
 use crate::lent::{all_declared, values_length, Lent};
 use crate::random::Random;
-use cruachvel::{Address, Curve, Groups, Kind, Variable};
+use cruachvel::{md5, Address, Curve, Groups, Kind, Variable};
 use cruachvel::{MOST_BLOCKS, MOST_CURVE_BYTES, MOST_VALUE_BYTES, MOST_VARIABLES, SUM_SIZE};
 
 // Written out, and not worked out, so that it is an opinion too.
@@ -26,6 +26,7 @@ pub fn board_a() -> Lent {
         },
         values: vec![0xFF, 0xFF, 0xFF, 0xFD, 0x5A, 0x34, 0x12],
         blocks: vec![0; 8],
+        lengths: vec![4; 2],
         sums: SUM_OF_8_ZEROS.to_vec(),
     }
 }
@@ -45,21 +46,35 @@ pub fn usable(random: &mut Random) -> Lent {
         },
         values: Vec::new(),
         blocks: Vec::new(),
+        lengths: Vec::new(),
         sums: Vec::new(),
     };
     lent.refit();
     random.fill(&mut lent.values);
     random.fill(&mut lent.blocks);
-    let mut lent = lent.fresh();
-    spoil_sums(random, &mut lent.sums);
+    shorten(random, &mut lent.lengths);
+    let mut sums = std::mem::take(&mut lent.sums);
+    for (curve, sum) in sums.chunks_mut(SUM_SIZE).enumerate() {
+        // Half of them are anything, as a sum is whose curve was written since.
+        if random.once_in(2) {
+            random.fill(sum);
+        } else {
+            sum.copy_from_slice(&md5(&lent.curve_bytes(curve)));
+        }
+    }
+    lent.sums = sums;
     lent
 }
 
-// Half of them are anything, as a sum is whose curve was written since.
-fn spoil_sums(random: &mut Random, sums: &mut [u8]) {
-    for sum in sums.chunks_mut(SUM_SIZE) {
-        if random.once_in(2) {
-            random.fill(sum);
+// Full blocks get fewer bytes, as short writes leave them: all of them, some of them, or none.
+fn shorten(random: &mut Random, lengths: &mut [u16]) {
+    let every = random.choose(&[1, 2, 8]);
+    if random.once_in(3) {
+        return;
+    }
+    for length in lengths {
+        if random.once_in(every) {
+            *length = random.within(1, usize::from(*length)) as u16;
         }
     }
 }

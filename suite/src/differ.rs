@@ -1,6 +1,7 @@
 //! Both nodes on one board, call after call: everything that a call leaves is compared.
 mod calls;
 mod digest;
+mod lengths;
 mod proved_side;
 mod second_side;
 mod sums;
@@ -18,6 +19,7 @@ use cruachvel::{Groups, Outcome, Refusal};
 use digest::Digest;
 use proved_side::Proved;
 use std::fmt;
+use tally::Before;
 pub use tally::Tally;
 
 /// How a call ended, in a form that both nodes' answers are brought to.
@@ -123,7 +125,7 @@ impl Differ {
         }
     }
 
-    /// Of the calls so far: how they ended, the buffers, stores, sums and group tables that they left.
+    /// Of the calls so far: how they ended, the buffers, stores, lengths, sums and group tables that they left.
     pub fn digest(&self) -> Option<u64> {
         self.digest.as_ref().map(|digest| digest.0)
     }
@@ -142,8 +144,8 @@ impl Differ {
         let edge = self.random.choose(&[Edge::Start, Edge::End]);
         self.proved.take(edge, &lent);
         let mut second = SecondLent::new(&lent);
-        let large = lent.blocks.len() > 8192;
-        let most = if large { 40 } else { 400 };
+        let large = lent.blocks.len() + 2 * lent.lengths.len() > 8192;
+        let most = if large { 20 } else { 400 };
         for _ in 0..self.random.within(1, most) {
             if self.tally.calls < calls {
                 self.call(&mut second)?;
@@ -161,7 +163,7 @@ impl Differ {
         Ok(())
     }
 
-    // Mostly a usable board; now and then one that is wrong in one way, or two, or has a bad address.
+    // Mostly a usable board; now and then one that is wrong in one way, or two, or has a bad address, or that is not fresh yet.
     fn lent(&mut self) -> Lent {
         let random = &mut self.random;
         let mut lent = boards::usable(random);
@@ -181,6 +183,9 @@ impl Differ {
         match random.below(64) {
             0 => lent.address.own = random.choose(&[0, 32, 33, 248, 255]),
             1 => lent.address.multicast &= 0xFE,
+            // As memory is before the board is made fresh: cleared, or anything.
+            2 => lent.lengths.fill(0),
+            3 => lent.lengths.fill_with(|| random.number() as u16),
             _ => (),
         }
         lent
@@ -188,7 +193,7 @@ impl Differ {
 
     fn call(&mut self, second: &mut SecondLent) -> Result<(), Difference> {
         let call = draw(&mut self.random, second);
-        let sums = second.sums.clone();
+        let before = Before::of(&call, second);
         if second.buffer.len() != call.room {
             second.buffer.resize(call.room, 0xA5);
             self.proved.buffer.put(self.proved.edge, &second.buffer);
@@ -199,7 +204,7 @@ impl Differ {
         if let Some(what) = self.proved.differing(second, &call, &told, &ending) {
             return Err(self.difference(second, &call, &told, &ending, what));
         }
-        self.tally.note(&call, &ending, &sums, second);
+        self.tally.note(&call, &ending, &before, second);
         if let Some(digest) = &mut self.digest {
             digest.note(&told, &self.proved);
         }
@@ -221,7 +226,8 @@ impl Differ {
              call: {:02X?}\n\
              proved node: {}\n\
              second node: {}\n\
-             first place where the curves' stores differ: {:?}",
+             first place where the curves' stores differ: {:?}\n\
+             first block whose lengths differ: {:?}",
             self.seed,
             self.tally.calls + 1,
             what,
@@ -237,24 +243,26 @@ impl Differ {
                 &second.groups(),
                 [&second.values, &second.sums, &second.buffer]
             ),
-            proved
-                .blocks
-                .iter()
-                .zip(&second.blocks)
-                .position(|(a, b)| a != b),
+            first_apart(&proved.blocks, &second.blocks),
+            first_apart(&proved.lengths, &second.lengths),
         ))
     }
 }
 
+fn first_apart<T: PartialEq>(one: &[T], other: &[T]) -> Option<usize> {
+    one.iter().zip(other).position(|(a, b)| a != b)
+}
+
 fn board(second: &SecondLent) -> String {
     let lent = &second.lent;
-    let lengths = [&second.values, &second.blocks, &second.sums].map(Vec::len);
+    let bytes = [&second.values, &second.blocks, &second.sums].map(Vec::len);
     format!(
-        "{:?}, own {}, multicast {:02X}, values, blocks and sums of {:?} bytes",
+        "{:?}, own {}, multicast {:02X}, values, blocks and sums of {:?} bytes, {} lengths",
         lent.table(),
         lent.address.own,
         lent.address.multicast,
-        lengths
+        bytes,
+        second.lengths.len()
     )
 }
 

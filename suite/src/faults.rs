@@ -1,6 +1,6 @@
 //! Every way in which 01's table of the board can be broken, by name.
 use crate::boards::fill_up;
-use crate::lent::{all_declared, values_length, Lent};
+use crate::lent::{all_declared, full_lengths, values_length, Lent};
 use cruachvel::{Curve, Kind, Variable, MOST_BLOCKS, MOST_VALUE_BYTES, MOST_VARIABLES, SUM_SIZE};
 
 type Change = Box<dyn Fn(&mut Lent) + Send + Sync>;
@@ -10,6 +10,8 @@ pub struct Fault {
     pub name: String,
     /// Whether the variable records are what is wrong, so that the readings see it too.
     pub in_variables: bool,
+    /// Whether a length is out of range, which a fresh board doesn't look at, as it sets it.
+    pub set_by_fresh: bool,
     prepare: Change,
     spoil: Change,
 }
@@ -27,15 +29,18 @@ impl Fault {
     }
 }
 
-/// All of them, by what is wrong: the list of variables, one of them, the list of curves, one of them, functions, stores, groups.
+/// All of them, by what is wrong: the list of variables, one of them, the list of curves, one of them, functions, stores, lengths, their
+/// count, groups.
 pub fn sorts_of_faults() -> Vec<Vec<Fault>> {
-    let makers: [fn(&mut Vec<Fault>); 7] = [
+    let makers: [fn(&mut Vec<Fault>); 9] = [
         of_variables,
         of_each_variable,
         of_curves,
         of_each_curve,
         of_functions,
         of_stores,
+        of_lengths,
+        of_length_counts,
         of_groups,
     ];
     let made = |maker: fn(&mut Vec<Fault>)| {
@@ -60,6 +65,7 @@ fn add(
     faults.push(Fault {
         name: name.into(),
         in_variables: false,
+        set_by_fresh: false,
         prepare: Box::new(prepare),
         spoil: Box::new(spoil),
     });
@@ -332,6 +338,80 @@ fn of_sums(faults: &mut Vec<Fault>) {
     );
     let moved = |lent: &mut Lent| lent.blocks.extend(lent.sums.split_off(SUM_SIZE));
     add(faults, "a sum among the blocks", with_curves(&TWO), moved);
+}
+
+fn of_lengths(faults: &mut Vec<Fault>) {
+    const THREE: [Curve; 3] = [
+        Curve::writable(4, 2),
+        Curve::read_only(2, 3),
+        Curve::writable(4096, 2),
+    ];
+    const FEW: [Curve; 1] = [Curve::read_only(3, 37)];
+    const MOST: [Curve; 1] = [Curve::writable(1, MOST_BLOCKS as u32)];
+    for curves in [&THREE[..], &FEW, &MOST] {
+        for place in Place::ALL {
+            length_fault(faults, curves, place, "0", |_| 0);
+            length_fault(faults, curves, place, "its block size + 1", |full| full + 1);
+            length_fault(faults, curves, place, "65,535", |_| u16::MAX);
+        }
+    }
+    // Each would be in range where its neighbour stands.
+    add(
+        faults,
+        "a block as long as those of the curve before it",
+        with_curves(&THREE),
+        |lent| lent.lengths[2] = 4,
+    );
+    add(
+        faults,
+        "a block as long as those of the curve after it",
+        with_curves(&THREE),
+        |lent| lent.lengths[4] = 4096,
+    );
+    faults
+        .iter_mut()
+        .for_each(|fault| fault.set_by_fresh = true);
+}
+
+// One block of these curves gets a length that is wrong by its block size.
+fn length_fault(
+    faults: &mut Vec<Fault>,
+    curves: &'static [Curve],
+    place: Place,
+    wrong: &str,
+    length: fn(u16) -> u16,
+) {
+    let blocks: u32 = curves.iter().map(|curve| curve.blocks).sum();
+    let name = format!("block {:?} of {} has length {}", place, blocks, wrong);
+    add(faults, name, with_curves(curves), move |lent| {
+        let full = full_lengths(&lent.curves);
+        let at = place.of(full.len());
+        lent.lengths[at] = length(full[at]);
+    });
+}
+
+fn of_length_counts(faults: &mut Vec<Fault>) {
+    const TWO: [Curve; 2] = [Curve::writable(4, 2), Curve::read_only(1, 3)];
+    let counts = [
+        (0, "no lengths"),
+        (2, "a length for each curve"),
+        (4, "one length too few"),
+        (6, "one length too many"),
+        (11, "a length for each byte"),
+    ];
+    for (count, name) in counts {
+        add(faults, name, with_curves(&TWO), move |lent| {
+            lent.lengths.resize(count, 1)
+        });
+    }
+    let one = |lent: &mut Lent| lent.lengths.push(1);
+    add(faults, "a length without curves", with_curves(&[]), one);
+    const MOST: [Curve; 1] = [Curve::read_only(1, MOST_BLOCKS as u32)];
+    add(faults, "65,537 lengths", with_curves(&MOST), one);
+    let fewer = |lent: &mut Lent| {
+        lent.lengths.pop();
+    };
+    add(faults, "65,535 lengths", with_curves(&MOST), fewer);
 }
 
 fn of_groups(faults: &mut Vec<Fault>) {

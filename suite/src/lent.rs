@@ -17,6 +17,7 @@ pub struct Lent {
     pub address: Address,
     pub values: Vec<u8>,
     pub blocks: Vec<u8>,
+    pub lengths: Vec<u16>,
     pub sums: Vec<u8>,
 }
 
@@ -26,14 +27,15 @@ struct Parts<'a> {
     groups: &'a mut Groups,
     values: &'a mut [u8],
     blocks: &'a mut [u8],
+    lengths: &'a mut [u16],
     sums: &'a mut [u8],
 }
 
-/// The longest store that is ever lent; a board whose records add up to more gets one that is shorter than that.
+/// The longest store that is ever lent, and the most lengths; a board whose records add up to more gets fewer than that.
 pub const MOST_LENT: usize = MOST_CURVE_BYTES + 4096;
 
 impl Lent {
-    /// A board with these records, at address 1: no group is made, and every byte of stores and sums is 0.
+    /// A board with these records, at address 1: no group is made, every byte of stores and sums is 0, and all blocks are full.
     pub fn declared(variables: Vec<Variable>, curves: &[Curve], functions: &[u8]) -> Lent {
         let mut lent = Lent {
             variables,
@@ -46,6 +48,7 @@ impl Lent {
             },
             values: Vec::new(),
             blocks: Vec::new(),
+            lengths: Vec::new(),
             sums: Vec::new(),
         };
         lent.refit();
@@ -70,6 +73,7 @@ impl Lent {
             groups: &mut self.groups,
             values: &mut self.values,
             blocks: &mut self.blocks,
+            lengths: &mut self.lengths,
             sums: &mut self.sums,
         }
     }
@@ -96,6 +100,7 @@ impl Lent {
             busy,
             lent.values,
             lent.blocks,
+            lent.lengths,
             lent.sums,
             request,
             reply,
@@ -125,6 +130,7 @@ impl Lent {
             &self.groups,
             &self.values,
             &self.blocks,
+            &self.lengths,
             &self.sums,
             FunctionNumber(function),
             due,
@@ -141,13 +147,14 @@ impl Lent {
             lent.groups,
             lent.values,
             lent.blocks,
+            lent.lengths,
             lent.sums,
             VariableNumber(variable),
             bytes,
         )
     }
 
-    /// The proved node's fresh board: all sums are worked out.
+    /// The proved node's fresh board: all blocks are full, and all sums are worked out.
     pub fn fresh_board(&mut self) -> Result<(), Refusal> {
         let lent = self.parts();
         cruachvel::fresh_board(
@@ -155,18 +162,25 @@ impl Lent {
             lent.groups,
             lent.values,
             lent.blocks,
+            lent.lengths,
             lent.sums,
         )
     }
 
-    /// Brings stores and sums to the lengths that the records add up to; new bytes are 0.
+    /// Brings stores, lengths and sums to what the records add up to; new bytes are 0, and a block whose length isn't in its range is full.
     pub fn refit(&mut self) {
         self.values.resize(values_length(&self.variables), 0);
         self.blocks.resize(blocks_length(&self.curves), 0);
         self.sums.resize(sums_length(&self.curves), 0);
+        let given = std::mem::replace(&mut self.lengths, full_lengths(&self.curves));
+        for (length, given) in self.lengths.iter_mut().zip(given) {
+            if (1..=*length).contains(&given) {
+                *length = given;
+            }
+        }
     }
 
-    /// This board as it is when it is switched on: of the right lengths, with its sums worked out. Where it is unusable, they stay.
+    /// This board as it is when it is switched on: of the right lengths, its blocks full, its sums worked out. Where it is unusable, they stay.
     pub fn fresh(mut self) -> Lent {
         self.refit();
         let _ = self.fresh_board();
@@ -175,17 +189,27 @@ impl Lent {
 
     /// Where the bytes of a curve stand in the store, if that is as long as the records say.
     pub fn curve_place(&self, curve: usize) -> Range<usize> {
-        let length = |record: &[u32]| (record[1] as usize).saturating_mul(record[2] as usize);
-        let mut lengths = self.curves.chunks_exact(3).map(length);
-        let before = lengths.by_ref().take(curve);
-        let start = before.fold(0, usize::saturating_add);
-        start..start.saturating_add(lengths.next().unwrap_or(0))
+        byte_place(&self.curves, curve)
     }
 
-    /// A curve's bytes, as far as the store has them.
-    pub fn curve_bytes(&self, curve: usize) -> &[u8] {
-        let (place, end) = (self.curve_place(curve), self.blocks.len());
-        &self.blocks[place.start.min(end)..place.end.min(end)]
+    /// A curve's blocks in the room of full ones, stale bytes too, as far as the store has them.
+    pub fn curve_room(&self, curve: usize) -> &[u8] {
+        within(&self.blocks, self.curve_place(curve))
+    }
+
+    /// Where the lengths of a curve's blocks stand, if there is one for each.
+    pub fn length_place(&self, curve: usize) -> Range<usize> {
+        length_place(&self.curves, curve)
+    }
+
+    /// The lengths of a curve's blocks, as far as there are any.
+    pub fn curve_lengths(&self, curve: usize) -> &[u16] {
+        within(&self.lengths, self.length_place(curve))
+    }
+
+    /// What a curve holds: its blocks one after the other, each as long as it is.
+    pub fn curve_bytes(&self, curve: usize) -> Vec<u8> {
+        held(&self.curves, &self.blocks, &self.lengths, curve)
     }
 
     /// A curve's sum, as far as there is one.
@@ -195,7 +219,7 @@ impl Lent {
 
     /// Whether the curve holds something else than what its sum is of.
     pub fn is_stale(&self, curve: usize) -> bool {
-        self.sum(curve) != md5(self.curve_bytes(curve))
+        self.sum(curve) != md5(&self.curve_bytes(curve))
     }
 
     /// The sets of groups 0 to 7, those that exist; bit n stands for variable n.
@@ -243,14 +267,68 @@ pub fn sums_length(curves: &[u32]) -> usize {
     curves.len() / 3 * SUM_SIZE
 }
 
-// Where the true sum is absurd, the sum that 32 bits would keep is the one that might deceive.
+/// The lengths of these curves' blocks where all are full; a record that is cut off has none.
+pub fn full_lengths(curves: &[u32]) -> Vec<u16> {
+    let records = curves.chunks_exact(3);
+    let blocks = records.clone().map(|record| u64::from(record[2]));
+    let count = lent_count(blocks.fold(0, u64::wrapping_add));
+    let mut lengths = Vec::with_capacity(count);
+    for record in records {
+        let full = record[1].min(u16::MAX.into()) as u16;
+        let end = lengths.len().saturating_add(record[2] as usize);
+        lengths.resize(end.min(count), full);
+    }
+    lengths
+}
+
+/// What a curve with one of these records holds in a store with these lengths, as far as they go.
+pub fn held(curves: &[u32], blocks: &[u8], lengths: &[u16], curve: usize) -> Vec<u8> {
+    let record = curves.chunks_exact(3).nth(curve);
+    let size = record.map_or(1, |record| record[1].max(1) as usize);
+    let rooms = within(blocks, byte_place(curves, curve)).chunks(size);
+    let lengths = within(lengths, length_place(curves, curve));
+    let mut held = Vec::new();
+    for (room, length) in rooms.zip(lengths) {
+        held.extend_from_slice(within(room, 0..usize::from(*length)));
+    }
+    held
+}
+
+fn byte_place(curves: &[u32], curve: usize) -> Range<usize> {
+    let bytes = |record: &[u32]| (record[1] as usize).saturating_mul(record[2] as usize);
+    place_of(curves, curve, bytes)
+}
+
+fn length_place(curves: &[u32], curve: usize) -> Range<usize> {
+    place_of(curves, curve, |record| record[2] as usize)
+}
+
+// Where a curve's part stands if each curve has so much.
+fn place_of(curves: &[u32], curve: usize, amount: impl Fn(&[u32]) -> usize) -> Range<usize> {
+    let mut amounts = curves.chunks_exact(3).map(amount);
+    let before = amounts.by_ref().take(curve);
+    let start = before.fold(0, usize::saturating_add);
+    start..start.saturating_add(amounts.next().unwrap_or(0))
+}
+
 fn blocks_length(curves: &[u32]) -> usize {
     let bytes = |curve: &[u32]| u64::from(curve[1]).wrapping_mul(u64::from(curve[2]));
     let sum = curves.chunks_exact(3).map(bytes).fold(0, u64::wrapping_add);
+    lent_count(sum)
+}
+
+// Where the true sum is absurd, the sum that 32 bits would keep is the one that might deceive.
+fn lent_count(sum: u64) -> usize {
     let deceiving = sum as u32 as usize;
     if sum <= MOST_LENT as u64 {
         sum as usize
     } else {
         deceiving.min(MOST_LENT)
     }
+}
+
+// The part of a slice that stands at this place, as far as there is one.
+fn within<T>(items: &[T], place: Range<usize>) -> &[T] {
+    let end = items.len();
+    &items[place.start.min(end)..place.end.min(end)]
 }

@@ -27,11 +27,14 @@ pub fn all() -> Vec<Measured> {
     let mut all = on_small_boards();
     all.extend(on_full_boards());
     all.extend(on_the_longest_curve());
+    all.extend(on_many_blocks());
     all
 }
 
 fn on_small_boards() -> Vec<Measured> {
     let a = board_a();
+    let mut short = a.clone();
+    short.lengths[1] = 3;
     let mut writable = a.clone();
     writable.variables[0] = Variable::writable(4, Kind::SignedBig);
     let mut bad_checksum = measured("bad checksum, board A", &a, 0x10, &[1]);
@@ -43,6 +46,19 @@ fn on_small_boards() -> Vec<Measured> {
         measured("write and read, board A", &a, 0x28, &[1, 2, 0x66]),
         measured("read of a sum, board A", &a, 0x0A, &[0]),
         measured("renewal of a sum of 8 bytes, board A", &a, 0x42, &[0]),
+        measured("read of a block, board A", &a, 0x40, &[0, 0, 1]),
+        measured(
+            "read of a block that isn't full, board A",
+            &short,
+            0x40,
+            &[0, 0, 1],
+        ),
+        measured(
+            "write of a block that isn't full, board A",
+            &a,
+            0x41,
+            &[0, 0, 1, 0x66],
+        ),
         measured("read of a group of 3", &a, 0x12, &[0]),
         measured(
             "write of a group of 3",
@@ -92,13 +108,59 @@ fn on_full_boards() -> Vec<Measured> {
 }
 
 fn on_the_longest_curve() -> Vec<Measured> {
-    let mut lent = full_board();
-    lent.curves = Curve::numbers(&[Curve::writable(4096, 16)]).to_vec();
-    let lent = lent.fresh();
+    let lent = with_curve(Curve::writable(4096, 16));
+    let mut short = lent.clone();
+    short.lengths.fill(4095);
     vec![
+        measured("version, 16 blocks", &lent, 0x00, &[]),
         measured("read of a sum of 65,536 bytes", &lent, 0x0A, &[0]),
         measured("renewal of a sum of 65,536 bytes", &lent, 0x42, &[0]),
+        measured(
+            "renewal of a sum of 16 blocks that aren't full",
+            &short,
+            0x42,
+            &[0],
+        ),
     ]
+}
+
+// Every call looks at every length.
+fn on_many_blocks() -> Vec<Measured> {
+    let most = with_curve(Curve::writable(1, 65536));
+    let mut short = with_curve(Curve::writable(2, 32768));
+    short.lengths.fill(1);
+    let mut unusable = measured("unusable board, in block 65,535", &most, 0x00, &[]);
+    unusable.lent.lengths[65535] = 0;
+    vec![
+        measured("version, 65,536 blocks", &most, 0x00, &[]),
+        measured(
+            "read of the last of 65,536 blocks",
+            &most,
+            0x40,
+            &[0, 0xFF, 0xFF],
+        ),
+        measured(
+            "write of the last of 65,536 blocks",
+            &most,
+            0x41,
+            &[0, 0xFF, 0xFF, 0x66],
+        ),
+        measured("renewal of a sum of 65,536 blocks", &most, 0x42, &[0]),
+        measured(
+            "renewal of a sum of 32,768 blocks that aren't full",
+            &short,
+            0x42,
+            &[0],
+        ),
+        unusable,
+    ]
+}
+
+// A full board but for its curves: it has this one.
+fn with_curve(curve: Curve) -> Lent {
+    let mut lent = full_board();
+    lent.curves = Curve::numbers(&[curve]).to_vec();
+    lent.fresh()
 }
 
 // As many records of each sort as a board may have, and as many bytes of curves.
@@ -117,6 +179,7 @@ fn full_board() -> Lent {
         },
         values: Vec::new(),
         blocks: Vec::new(),
+        lengths: Vec::new(),
         sums: Vec::new(),
     };
     lent.fresh()
@@ -199,6 +262,7 @@ impl Side for Second {
             self.busy,
             &mut self.lent.values,
             &mut self.lent.blocks,
+            &mut self.lent.lengths,
             &mut self.lent.sums,
             &self.request,
             &mut self.reply,

@@ -11,6 +11,7 @@ pub struct SecondLent {
     groups: second::Groups,
     pub values: Vec<u8>,
     pub blocks: Vec<u8>,
+    pub lengths: Vec<u16>,
     pub sums: Vec<u8>,
     /// For a reply, or for the bytes of a number.
     pub buffer: Vec<u8>,
@@ -56,6 +57,7 @@ impl SecondLent {
             groups: groups(lent),
             values: lent.values.clone(),
             blocks: lent.blocks.clone(),
+            lengths: lent.lengths.clone(),
             sums: lent.sums.clone(),
             lent: lent.clone(),
             buffer: Vec::new(),
@@ -71,6 +73,7 @@ impl SecondLent {
             busy,
             &mut self.values,
             &mut self.blocks,
+            &mut self.lengths,
             &mut self.sums,
             request,
             &mut self.buffer,
@@ -90,6 +93,7 @@ impl SecondLent {
             &self.groups,
             &self.values,
             &self.blocks,
+            &self.lengths,
             &self.sums,
             function,
             due,
@@ -106,19 +110,21 @@ impl SecondLent {
             &self.groups,
             &mut self.values,
             &self.blocks,
+            &self.lengths,
             &self.sums,
             variable,
             bytes,
         )
     }
 
-    /// The second node's fresh board: every curve's sum is worked out.
+    /// The second node's fresh board: every block is full, and every curve's sum is worked out.
     pub fn fresh_board(&mut self) -> Result<(), u8> {
         second::fresh_board(
             &table(&self.variables, &self.lent),
             &self.groups,
             &self.values,
             &self.blocks,
+            &mut self.lengths,
             &mut self.sums,
         )
     }

@@ -109,6 +109,10 @@ fn drawn_packets() {
         "only {} different sums were read",
         sums.len()
     );
+    let blocks = lines.iter().filter_map(|line| line.split_once(" 004100"));
+    let sizes: BTreeSet<&str> = blocks.map(|(_, block)| &block[..2]).collect();
+    let of_every_length = ["04", "05", "06", "07"];
+    assert!(sizes.iter().eq(&of_every_length), "{:?} were read", sizes);
 }
 
 #[test]

@@ -60,6 +60,7 @@ reply 00 E0 00 00 20
 group 3 0 2
 group 4 none
 block 0 1 00 00 00 00
+length 0 1 4
 fresh
 done
 sum 0 7D EA 36 2B 3F AC 8E 00 95 6A 49 52 A3 D4 F4 74
@@ -144,14 +145,29 @@ const CHANGES: &[(&str, &str, &str)] = &[
         "line 23: it says \"block 0 1 00 00 00 01\", and it is \"block 0 1 00 00 00 00\"",
     ),
     (
+        "block 0 1 00",
+        "block 0 2 00",
+        "line 23: \"block 0 2 00 00 00 00\" can't be found out",
+    ),
+    (
+        "length 0 1 4",
+        "length 0 1 3",
+        "line 24: it says \"length 0 1 3\", and it is \"length 0 1 4\"",
+    ),
+    (
+        "length 0 1 4",
+        "length 0 2 4",
+        "line 24: \"length 0 2 4\" can't be found out",
+    ),
+    (
         "sum 0 7D",
         "sum 0 7E",
-        "line 26: it says \"sum 0 7E EA 36 2B 3F AC 8E 00 95 6A 49 52 A3 D4 F4 74\", and it is \"sum 0 7D EA 36 2B 3F AC 8E 00 95 6A 49 52 A3 D4 F4 74\"",
+        "line 27: it says \"sum 0 7E EA 36 2B 3F AC 8E 00 95 6A 49 52 A3 D4 F4 74\", and it is \"sum 0 7D EA 36 2B 3F AC 8E 00 95 6A 49 52 A3 D4 F4 74\"",
     ),
     (
         "sum 0 7D",
         "sum 1 7D",
-        "line 26: \"sum 1 7D EA 36 2B 3F AC 8E 00 95 6A 49 52 A3 D4 F4 74\" can't be found out",
+        "line 27: \"sum 1 7D EA 36 2B 3F AC 8E 00 95 6A 49 52 A3 D4 F4 74\" can't be found out",
     ),
 ];
 
@@ -286,7 +302,7 @@ fn a_sentence_that_01_does_not_have_is_found() {
     let document = document.replace("long  road", "short road");
     assert_eq!(
         misquoted(&cases, &document),
-        ["line 27: 01 doesn't say: The long road"]
+        ["line 28: 01 doesn't say: The long road"]
     );
     let step = "E2: command not above.";
     let document = whatif.replace(step, "");

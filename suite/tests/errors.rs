@@ -29,6 +29,7 @@ fn rich_board() -> Lent {
         },
         values: Vec::new(),
         blocks: Vec::new(),
+        lengths: Vec::new(),
         sums: Vec::new(),
     };
     lent.fresh()

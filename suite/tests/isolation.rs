@@ -9,7 +9,7 @@ use suite::random::Random;
 const PAIRS: usize = 600;
 const MOST_CALLS: usize = 120;
 
-/// One board, in two states that differ in the bytes of `variable` alone; so they have equal blocks and equal sums.
+/// One board, in two states that differ in the bytes of `variable` alone; so they have equal blocks, lengths and sums.
 #[derive(Clone)]
 struct Twins {
     left: Lent,

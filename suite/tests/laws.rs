@@ -2,7 +2,7 @@
 use cruachvel::{md5, Outcome, SUM_SIZE};
 use suite::boards::usable;
 use suite::faults::faults;
-use suite::lent::{members, Lent};
+use suite::lent::{full_lengths, members, Lent};
 use suite::packets::{message, packet, Drawer};
 use suite::random::Random;
 
@@ -162,11 +162,11 @@ fn curves(lent: &Lent) -> usize {
     lent.curves.len() / 3
 }
 
-// What 42 of a curve, or a fresh board, makes of a state.
+// What 42 of a curve, or of each of a fresh board, makes of a state.
 fn renewed(before: &Lent, curves: impl Iterator<Item = usize>) -> Lent {
     let mut after = before.clone();
     for curve in curves {
-        let sum = md5(before.curve_bytes(curve));
+        let sum = md5(&before.curve_bytes(curve));
         after.sums[curve * SUM_SIZE..(curve + 1) * SUM_SIZE].copy_from_slice(&sum);
     }
     after
@@ -205,11 +205,16 @@ fn packets_change_sums_by_42_alone_and_then_nothing_else() {
 }
 
 #[test]
-fn a_fresh_board_has_the_sums_of_what_its_curves_hold_and_nothing_else_changes() {
+fn a_fresh_board_has_full_blocks_and_their_sums_and_nothing_else_changes() {
     let mut random = Random::new(27);
     for _ in 0..BOARDS {
         let mut lent = small_board(&mut random);
-        let expected = renewed(&lent, 0..curves(&lent));
+        let mut full = lent.clone();
+        full.lengths = full_lengths(&lent.curves);
+        let expected = renewed(&full, 0..curves(&lent));
+        if random.once_in(2) {
+            lent.lengths.fill_with(|| random.number() as u16);
+        }
         assert_eq!(lent.fresh_board(), Ok(()));
         assert_eq!(lent, expected);
     }
@@ -227,10 +232,132 @@ fn a_sum_is_read_as_it_stands_and_is_that_of_the_curve_after_42() {
             assert_eq!(lent, before);
             assert_eq!(lent.ask(&message(0x42, &[number])), [0xE0, 0, 0]);
             assert_eq!(lent, renewed(&before, curve..curve + 1));
-            let sum = message(0x0B, &md5(lent.curve_bytes(curve)));
+            let sum = message(0x0B, &md5(&lent.curve_bytes(curve)));
             assert_eq!(lent.ask(&message(0x0A, &[number])), sum);
         }
     }
+}
+
+// A block of a writable curve, if the board has one: its curve and number, and how many bytes it takes.
+fn some_block(random: &mut Random, lent: &Lent) -> Option<([u8; 3], usize)> {
+    let records = lent.curves.chunks_exact(3).zip(0..);
+    let writable: Vec<(&[u32], u8)> = records.filter(|(record, _)| record[0] == 1).collect();
+    let (record, curve) = *writable.get(random.below(writable.len()))?;
+    let [high, low] = (random.below(record[2] as usize) as u16).to_be_bytes();
+    Some(([curve, high, low], record[1] as usize))
+}
+
+#[test]
+fn a_block_is_read_as_it_was_written_be_it_shorter_or_longer_than_before() {
+    let mut random = Random::new(29);
+    let (mut shorter, mut longer, mut last) = (0, 0, 0);
+    for _ in 0..BOARDS {
+        let mut lent = small_board(&mut random);
+        if let Some((front, size)) = some_block(&mut random, &lent) {
+            for _ in 0..PACKETS / 4 {
+                let length = random.within(1, size);
+                let block = [&front[..], &random.bytes(length)].concat();
+                assert_eq!(lent.ask(&message(0x41, &block)), [0xE0, 0, 0]);
+                assert_eq!(lent.ask(&message(0x40, &front)), message(0x41, &block));
+                shorter += usize::from(length < last);
+                longer += usize::from(length > last);
+                last = length;
+            }
+        }
+    }
+    assert!(shorter > BOARDS && longer > BOARDS);
+}
+
+// Two states that differ past the lengths alone.
+fn stale_twins(random: &mut Random) -> (Lent, Lent) {
+    let left = small_board(random);
+    let mut right = left.clone();
+    random.fill(&mut right.blocks);
+    let mut held = left.lengths.iter();
+    for curve in 0..curves(&left) {
+        let size = left.curves[3 * curve + 1] as usize;
+        let place = left.curve_place(curve);
+        let rooms = right.blocks[place.clone()].chunks_mut(size);
+        for (room, old) in rooms.zip(left.blocks[place].chunks(size)) {
+            let length = held.next().map_or(0, |length| usize::from(*length));
+            room[..length].copy_from_slice(&old[..length]);
+        }
+    }
+    (left, right)
+}
+
+// As far as calls show it: stale bytes are left out.
+fn shown(lent: &Lent) -> (Lent, Vec<Vec<u8>>) {
+    let held = (0..curves(lent)).map(|curve| lent.curve_bytes(curve));
+    let held = held.collect();
+    let blocks = Vec::new();
+    (
+        Lent {
+            blocks,
+            ..lent.clone()
+        },
+        held,
+    )
+}
+
+#[test]
+fn stale_bytes_are_never_shown_but_by_a_fresh_board() {
+    let mut random = Random::new(30);
+    let mut apart = 0;
+    for _ in 0..BOARDS {
+        let (mut left, mut right) = stale_twins(&mut random);
+        for _ in 0..PACKETS {
+            let groups = &left.groups;
+            let (request, draft) = Drawer {
+                random: &mut random,
+                lent: &left,
+                groups,
+            }
+            .packet();
+            let (mut one, mut other) = ([0; 4104], [0; 4104]);
+            let ended = left.packet(draft.busy, &request, &mut one);
+            assert_eq!(ended, right.packet(draft.busy, &request, &mut other));
+            assert_eq!(shown(&left), shown(&right), "{:02X?}", draft);
+        }
+        let differ = left.blocks != right.blocks;
+        assert_eq!([left.fresh_board(), right.fresh_board()], [Ok(()); 2]);
+        assert_eq!(left.sums != right.sums, differ);
+        apart += usize::from(differ);
+    }
+    assert!(apart > BOARDS / 10, "only {} pairs differed", apart);
+}
+
+#[test]
+fn packets_change_lengths_by_41_alone_and_keep_them_in_range() {
+    let mut random = Random::new(31);
+    let mut set = 0;
+    for _ in 0..BOARDS {
+        let mut lent = small_board(&mut random);
+        for _ in 0..PACKETS {
+            let before = lent.clone();
+            let groups = &before.groups;
+            let (request, draft) = Drawer {
+                random: &mut random,
+                lent: &before,
+                groups,
+            }
+            .packet();
+            lent.packet(draft.busy, &request, &mut [0; 4104]);
+            let full = full_lengths(&lent.curves);
+            let mut pairs = lent.lengths.iter().zip(&full);
+            assert!(pairs.all(|(length, full)| (1..=*full).contains(length)));
+            if lent.lengths != before.lengths {
+                assert_eq!(request[1], 0x41, "{:02X?}", draft);
+                let block = usize::from(u16::from_be_bytes([request[5], request[6]]));
+                let place = lent.length_place(request[4].into()).start + block;
+                let mut expected = before.lengths.clone();
+                expected[place] = (request.len() - 8) as u16;
+                assert_eq!(lent.lengths, expected, "{:02X?}", draft);
+                set += 1;
+            }
+        }
+    }
+    assert!(set > BOARDS / 10, "only {} lengths were set", set);
 }
 
 #[test]

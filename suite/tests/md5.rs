@@ -1,5 +1,5 @@
 //! MD5 by three opinions: the library's, the second node's and md5sum's, on RFC 1321's suite and on messages of all lengths that its padding
-//! tells apart; and the sum that 42 gives a curve, which is the library's MD5 of the curve's bytes.
+//! tells apart; and the sum that 42 gives a curve, which is the library's MD5 of the curve's bytes, be its blocks full or not.
 use cruachvel::{md5, Curve, Kind, Variable, SUM_SIZE};
 use std::fs;
 use std::process::Command;
@@ -132,6 +132,28 @@ fn board(bytes: &[u8], block_size: usize) -> Lent {
     lent
 }
 
+// A board whose first curve holds these bytes in blocks of drawn lengths, and the bytes after them are anything.
+fn unevenly(random: &mut Random, bytes: &[u8]) -> Lent {
+    let size = random.within(1, 4096.min(bytes.len()));
+    let mut pieces = Vec::new();
+    let mut rest = bytes;
+    while !rest.is_empty() {
+        let length = random.within((size + 1) / 2, size).min(rest.len());
+        let (piece, after) = rest.split_at(length);
+        pieces.push(piece);
+        rest = after;
+    }
+    let curve = Curve::writable(size as u32, pieces.len() as u32);
+    let variables = vec![Variable::writable(1, Kind::Plain)];
+    let mut lent = Lent::declared(variables, &[curve], &[]);
+    random.fill(&mut lent.blocks);
+    for (block, piece) in pieces.into_iter().enumerate() {
+        lent.blocks[block * size..][..piece.len()].copy_from_slice(piece);
+        lent.lengths[block] = piece.len() as u16;
+    }
+    lent
+}
+
 // The largest size that a block may have and that goes into so many bytes.
 fn block_size(length: usize) -> usize {
     let sizes = (1..=length.min(4096)).rev();
@@ -156,5 +178,25 @@ fn a_renewed_sum_is_the_md5_of_the_whole_curve() {
             assert_eq!(lent.sum(curve), md5(&bytes), "{} bytes in {}", length, size);
             assert!(curve == 0 || lent.sum(0) == [0; SUM_SIZE]);
         }
+    }
+}
+
+#[test]
+fn a_renewed_sum_of_blocks_that_are_not_full_is_the_md5_of_their_bytes_together() {
+    let mut random = Random::new(1324);
+    let lengths = lengths(&mut random).into_iter();
+    // Blocks that are half full at least have room for so many.
+    for length in lengths.filter(|length| (1..=MOST / 3).contains(length)) {
+        let bytes = random.bytes(length);
+        let mut lent = unevenly(&mut random, &bytes);
+        let stale = lent.blocks.len() - length;
+        assert_eq!(lent.ask(&message(0x42, &[0])), [0xE0, 0, 0]);
+        assert_eq!(
+            lent.sum(0),
+            md5(&bytes),
+            "{} bytes, {} stale",
+            length,
+            stale
+        );
     }
 }

@@ -16,27 +16,27 @@ fn wrong(text: &str, node: Node) -> Vec<String> {
         .collect()
 }
 
-// How a line starts that names a change: "variable 1: 5A -> 55" is named by "variable 1 55".
-fn naming(change: &str) -> String {
+// How lines start that name a change: "variable 1: 5A -> 55" is named by "variable 1 55".
+fn naming(change: &str) -> Vec<String> {
     let thing = change.split_once(':').map_or(change, |(thing, _)| thing);
-    let words: Vec<&str> = thing.split_whitespace().collect();
+    let words: Vec<&str> = thing.split([' ', ',']).filter(|w| !w.is_empty()).collect();
     match words[..] {
-        ["sum", "of", "curve", curve] => format!("sum {} ", curve),
-        ["curve", curve, "block", block, ..] => {
-            format!(
-                "block {} {} ",
-                curve.trim_end_matches(','),
-                block.trim_end_matches(',')
-            )
-        }
-        _ => format!("{} ", thing),
+        ["sum", "of", "curve", curve] => vec![format!("sum {} ", curve)],
+        // A block's line has all that it holds, and so its length too.
+        ["curve", curve, "block", block, "length"] => vec![
+            format!("length {} {} ", curve, block),
+            format!("block {} {} ", curve, block),
+        ],
+        ["curve", curve, "block", block, ..] => vec![format!("block {} {} ", curve, block)],
+        _ => vec![format!("{} ", thing)],
     }
 }
 
 fn unnamed(act: &Act, changes: &[String]) -> Vec<String> {
     let named = |change: &str| {
-        let line = naming(change);
-        act.expected.iter().any(|(_, said)| said.starts_with(&line))
+        let lines = naming(change);
+        let names = |said: &str| lines.iter().any(|line| said.starts_with(line));
+        act.expected.iter().any(|(_, said)| names(said))
     };
     let line = |change: &String| format!("line {}: no line names {}", act.line, change);
     let unnamed = changes.iter().filter(|change| !named(change));
@@ -67,10 +67,13 @@ variable 2 02 03
 reads 2 770
 packet 05 41 00 04 00 00 01 66 4F
 reply 00 E0 00 00 20
-block 0 1 66 00 00 00
+block 0 1 66
 packet 05 42 00 01 00 B8
 reply 00 E0 00 00 20
-sum 0 18 04 7A 5E FD 30 D2 45 AB BF 6A 11 91 BC 12 05";
+sum 0 72 B7 E8 0C BE FC 76 CB 19 21 C0 9E 66 20 A3 C1
+packet 05 41 00 06 00 00 01 66 00 00 4D
+reply 00 E0 00 00 20
+length 0 1 3";
 
 const CHANGES: &[(&str, &str, &str)] = &[
     (
@@ -89,19 +92,29 @@ const CHANGES: &[(&str, &str, &str)] = &[
         "line 2: no line names variable 1: 5A -> 01",
     ),
     (
-        "block 0 1 66 00 00 00\n",
-        "",
+        "block 0 1 66\n",
+        "length 0 1 1\n",
         "line 7: no line names curve 0, block 1, from byte 0: 00 -> 66",
     ),
     (
-        "sum 0 18 04",
-        "sum 0 18 05",
-        "line 12: it says \"sum 0 18 05 7A 5E FD 30 D2 45 AB BF 6A 11 91 BC 12 05\", and it is \"sum 0 18 04 7A 5E FD 30 D2 45 AB BF 6A 11 91 BC 12 05\"",
+        "block 0 1 66\n",
+        "block 0 1 66 00 00 00\n",
+        "line 9: it says \"block 0 1 66 00 00 00\", and it is \"block 0 1 66\"",
     ),
     (
-        "\nsum 0 18 04 7A 5E FD 30 D2 45 AB BF 6A 11 91 BC 12 05",
+        "\nlength 0 1 3",
         "",
-        "line 10: no line names sum of curve 0: 7D EA 36 2B 3F AC 8E 00 95 6A 49 52 A3 D4 F4 74 -> 18 04 7A 5E FD 30 D2 45 AB BF 6A 11 91 BC 12 05",
+        "line 13: no line names curve 0, block 1, length: 1 -> 3",
+    ),
+    (
+        "sum 0 72 B7",
+        "sum 0 72 B8",
+        "line 12: it says \"sum 0 72 B8 E8 0C BE FC 76 CB 19 21 C0 9E 66 20 A3 C1\", and it is \"sum 0 72 B7 E8 0C BE FC 76 CB 19 21 C0 9E 66 20 A3 C1\"",
+    ),
+    (
+        "\nsum 0 72 B7 E8 0C BE FC 76 CB 19 21 C0 9E 66 20 A3 C1",
+        "",
+        "line 10: no line names sum of curve 0: 7D EA 36 2B 3F AC 8E 00 95 6A 49 52 A3 D4 F4 74 -> 72 B7 E8 0C BE FC 76 CB 19 21 C0 9E 66 20 A3 C1",
     ),
 ];
 

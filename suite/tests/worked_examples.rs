@@ -264,15 +264,16 @@ fn section_3_8_2_write_a_block() {
 
 #[test]
 fn section_3_8_2_a_block_with_fewer_bytes() {
-    // In 01 a write replaces as many of the block's first bytes as it carries, and a read returns the whole block.
+    // In 01 a read returns the whole block; by 2026-03 it returns as many bytes as the last write carried, as in 001.
     let mut lent = board(&[(0, 1)], &[Curve::writable(4, 1)], &[]);
     lent.blocks.fill(0x11);
     assert_eq!(
         lent.ask(&[0x41, 0x00, 0x05, 0x00, 0x00, 0x00, 0xDD, 0xDD]),
         OK
     );
-    let block = [0x41, 0x00, 0x07, 0x00, 0x00, 0x00, 0xDD, 0xDD, 0x11, 0x11];
+    let block = [0x41, 0x00, 0x05, 0x00, 0x00, 0x00, 0xDD, 0xDD];
     assert_eq!(lent.ask(&[0x40, 0x00, 0x03, 0x00, 0x00, 0x00]), block);
+    assert_eq!(lent.blocks, [0xDD, 0xDD, 0x11, 0x11]);
     // 001 allows a block of no bytes; 01 asks for 1 at least.
     assert_eq!(
         lent.ask(&[0x41, 0x00, 0x03, 0x00, 0x00, 0x00]),

@@ -1,13 +1,17 @@
 //! A board for the page: what it holds now, and the words of its lines in a board file.
 use suite::boards;
-use suite::lent::{members, Lent};
-use suite::whatif::bytes::{hex, shown};
+use suite::lent::{full_lengths, members, Lent};
+use suite::whatif::bytes::{counted, hex, shown};
 use suite::whatif::changes::value_text;
 use suite::whatif::json::{array, object, string};
+use suite::whatif::table::filled;
 use suite::whatif::things::{
-    curve, curve_text, function, function_text, group, group_text, kind_name, listed, number,
-    sum_text, type_name, value, variable_text, Setting,
+    curve, function, function_text, group, group_text, kind_name, length_words, lent_curve_text,
+    listed, number, sum_text, type_name, value, variable_text, Setting,
 };
+
+// More words of lengths than this are not shown, and more lengths don't get a line each.
+const SHOWN: usize = 16;
 
 /// Board A of 01, which is there before any other.
 pub fn board_a() -> Setting {
@@ -61,18 +65,31 @@ fn group_thing(lent: &Lent, number: usize) -> Option<String> {
     Some(thing(&format!("group {}", number), &what, None))
 }
 
-// A curve and its sum.
-fn curve_things(lent: &Lent, number: usize) -> Option<[String; 2]> {
-    let (what, name) = (
-        curve_text(curve(lent, number)?),
-        format!("curve {}", number),
-    );
-    let (bytes, sum) = (shown(lent.curve_bytes(number)), shown(lent.sum(number)));
+// A curve, the lengths of its blocks and its sum.
+fn curve_things(lent: &Lent, number: usize) -> Option<[String; 3]> {
+    let what = lent_curve_text(lent, number)?;
+    let name = format!("curve {}", number);
+    let (bytes, sum) = (shown(&lent.curve_bytes(number)), shown(lent.sum(number)));
+    let lengths = shown_lengths(lent.curve_lengths(number));
     let about = sum_text(number, lent.is_stale(number));
     Some([
         thing(&name, &what, Some(bytes)),
+        thing(
+            &format!("lengths of {}", name),
+            "bytes in each of its blocks",
+            Some(lengths),
+        ),
         thing(&format!("sum of {}", name), &about, Some(sum)),
     ])
+}
+
+fn shown_lengths(lengths: &[u16]) -> String {
+    let words = length_words(lengths);
+    if words.len() <= SHOWN {
+        return words.join(" ");
+    }
+    let count = counted(lengths.len(), "block");
+    format!("{} .. ({})", words[..SHOWN].join(" "), count)
 }
 
 fn function_thing(lent: &Lent, number: usize) -> Option<String> {
@@ -97,6 +114,7 @@ pub fn form(setting: &Setting) -> String {
             "curve",
             rows((0..).map_while(|number| curve_words(lent, number))),
         ),
+        ("length", rows(given_lengths(lent).unwrap_or_default())),
         ("sum", rows(given_sums(lent, &fitted))),
         (
             "function",
@@ -106,6 +124,7 @@ pub fn form(setting: &Setting) -> String {
         ("busy", rows([vec![listed(members(setting.busy))]])),
         ("values", rows(odd_store(&lent.values, &fitted.values))),
         ("blocks", rows(odd_store(&lent.blocks, &fitted.blocks))),
+        ("lengths", rows(all_lengths(lent))),
         ("sums", rows(odd_store(&lent.sums, &fitted.sums))),
     ])
 }
@@ -132,10 +151,10 @@ fn variable_words(lent: &Lent, variable: usize) -> Vec<String> {
     ]
 }
 
-// Zeros at the end need not be said.
+// Zeros at the end need not be said, stale bytes need.
 fn curve_words(lent: &Lent, number: usize) -> Option<Vec<String>> {
     let record = curve(lent, number)?;
-    let bytes = lent.curve_bytes(number);
+    let bytes = lent.curve_room(number);
     let said = bytes
         .iter()
         .rposition(|byte| *byte != 0)
@@ -148,15 +167,36 @@ fn curve_words(lent: &Lent, number: usize) -> Option<Vec<String>> {
     ])
 }
 
+// The blocks that are not full, each with its curve, number and length; none if they are too many for a line each, or if there is not one
+// length for each block.
+fn given_lengths(lent: &Lent) -> Option<Vec<Vec<String>>> {
+    let filled = filled(lent);
+    let mut rows = Vec::new();
+    for curve in 0..lent.curves.len() / 3 {
+        let full = filled.curve_lengths(curve);
+        let blocks = lent.curve_lengths(curve).iter().zip(full).enumerate();
+        for (block, (length, _)) in blocks.filter(|(_, (length, full))| length != full) {
+            rows.push([curve.to_string(), block.to_string(), length.to_string()].to_vec());
+        }
+    }
+    let one_each = lent.lengths.len() == full_lengths(&lent.curves).len();
+    (one_each && rows.len() <= SHOWN).then_some(rows)
+}
+
+// Lengths that have no line each.
+fn all_lengths(lent: &Lent) -> Option<Vec<String>> {
+    match given_lengths(lent) {
+        Some(_) => None,
+        None => Some(vec![length_words(&lent.lengths).join(" ")]),
+    }
+}
+
 // The sums that are not as a board file has them where it says none. Of another length than the records make, they have a line of their own.
 fn given_sums(lent: &Lent, fitted: &Lent) -> Vec<Vec<String>> {
     if lent.sums.len() != fitted.sums.len() {
         return Vec::new();
     }
-    let mut without = lent.clone();
-    without.sums.fill(0);
-    let _ = without.fresh_board();
-    let given = |number: &usize| lent.sum(*number) != without.sum(*number);
+    let given = |number: &usize| lent.is_stale(*number);
     let words = |number: usize| vec![number.to_string(), hex(lent.sum(number))];
     (0..lent.curves.len() / 3)
         .filter(given)

@@ -148,9 +148,22 @@ def a_sum_goes_stale_and_is_renewed(page):
     page.sees("#facts", "the sum of curve 0 is stale; 42 renews it")
     page.run("05 42 00 01 00 B8")
     page.sees("#facts", "42 (payload: curve; answer E0)", "sum of curve 0: 7D EA 36 2B")
-    has("the sum", page.thing("sum of curve 0"), "of what curve 0 holds", "18 04 7A 5E")
+    has("the sum", page.thing("sum of curve 0"), "of what curve 0 holds", "72 B7 E8 0C")
     page.run("05 0A 00 01 00 F0")
-    page.sees_row("sum", "18 04 7A 5E", "of what curve 0 holds")
+    page.sees_row("sum", "72 B7 E8 0C", "of what curve 0 holds")
+
+
+def a_short_block_is_read_as_it_was_written(page):
+    has("the lengths", page.thing("lengths of curve 0"), "4*2")
+    page.run("05 41 00 06 00 00 01 AA BB CC 82")
+    page.sees("#facts", "curve 0, block 1, length: 4 -> 3")
+    has("the lengths", page.thing("lengths of curve 0"), "4 3")
+    has("the curve", page.thing("curve 0"), "2 blocks of 4 bytes, 1 not full", "00 00 00 00 AA BB CC")
+    page.run("05 40 00 03 00 00 01 B7")
+    page.sees_row("data", "AA BB CC", "3 of 4 bytes")
+    page.run("fresh")
+    page.sees("#outcome", "all blocks are full, and the sums are worked out")
+    has("the lengths", page.thing("lengths of curve 0"), "4*2")
 
 
 def a_broken_link_is_told(page):
@@ -213,11 +226,15 @@ def a_board_from_the_form(page):
     page.browser.type("[data-line=group] input", "0 1")
     page.browser.click("[data-add=sum]")
     page.browser.type("[data-line=sum] label:nth-of-type(2) input", "AB*16")
+    page.browser.click("[data-add=length]")
+    page.browser.type("[data-line=length] label:nth-of-type(2) input", "1")
+    page.browser.type("[data-line=length] label:nth-of-type(3) input", "2")
     page.browser.click("#board-form .main")
     has("the address", page.thing("address"), "9")
     has("variable 0", page.thing("variable 0"), "FF FF FF FC (-4)")
     has("group 3", page.thing("group 3"), "read-only, variables 0 1")
     has("the sum", page.thing("sum of curve 0"), "stale", "AB AB")
+    has("the lengths", page.thing("lengths of curve 0"), "4 2")
     page.run("09 10 00 01 00 E6")
     page.browser.click("#anew")
     is_same("history", page.outcomes(), [])
@@ -382,6 +399,7 @@ TESTS = [
     (a_write_gets_its_rule_also_by_a_link, "page.js", "calls.map(({ text, sum }) =>", "calls.slice(1).map(({ text, sum }) =>"),
     (a_function_is_run_and_undone, "page.js", "show(last, run(last));", "show(last, came);"),
     (a_sum_goes_stale_and_is_renewed, "wasm", b"is stale; 42", b"is fine; 042"),
+    (a_short_block_is_read_as_it_was_written, "wasm", b", length: ", b", width:  "),
     (a_broken_link_is_told, "page.js", "sum !== check(JSON.stringify(pairs))", "!sum"),
     (an_error_in_the_hex_is_placed, "page.js", "letters[place - 1] });", "letters[place] });"),
     (a_bad_board_file_is_told_and_not_used, "page.js", "  if (begun.mistake) return begun;\n", ""),

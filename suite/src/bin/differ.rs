@@ -1,6 +1,6 @@
 //! differ [--seed N] [--calls N] [--all] [--digest]: both nodes on random boards, call after call, until that many calls agreed or one didn't.
 //! With --all it also fails if some refusal, answer, wire error or pair of wire errors never came up. With --digest its last line is a number
-//! for all that the calls left: outcomes, replies, stores, sums and group tables.
+//! for all that the calls left: outcomes, replies, stores, lengths, sums and group tables.
 use std::process::exit;
 use suite::differ::Differ;
 
@@ -59,6 +59,7 @@ fn main() {
         println!("{} calls agree", differ.tally.calls);
     }
     println!("{}", differ.tally.busy_reads());
+    println!("{}", differ.tally.lengths());
     println!("{}", differ.tally.sums());
     let not_met = differ.tally.not_met();
     if wanted.all && !not_met.is_empty() {

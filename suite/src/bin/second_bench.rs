@@ -41,6 +41,7 @@ struct State {
     groups: Groups,
     values: [u8; 7],
     blocks: [u8; 8],
+    lengths: [u16; 2],
     sums: [u8; 16],
 }
 
@@ -79,7 +80,7 @@ fn main() -> io::Result<()> {
 }
 
 impl State {
-    /// What board A starts with, its sum worked out.
+    /// What board A starts with, its blocks full and its sum worked out.
     fn fresh() -> Result<State, u8> {
         let groups = Groups {
             count: 0,
@@ -87,12 +88,13 @@ impl State {
         };
         let values = [0xFF, 0xFF, 0xFF, 0xFD, 0x5A, 0x34, 0x12];
         let blocks = [0; 8];
-        let mut sums = [0; 16];
-        fresh_board(&TABLE, &groups, &values, &blocks, &mut sums)?;
+        let (mut lengths, mut sums) = ([0; 2], [0; 16]);
+        fresh_board(&TABLE, &groups, &values, &blocks, &mut lengths, &mut sums)?;
         Ok(State {
             groups,
             values,
             blocks,
+            lengths,
             sums,
         })
     }
@@ -105,6 +107,7 @@ impl State {
             0,
             &mut self.values,
             &mut self.blocks,
+            &mut self.lengths,
             &mut self.sums,
             request,
             reply,

@@ -32,12 +32,13 @@ pub struct Act {
 const OUTCOMES: [&str; 7] = [
     "reply", "silence", "run", "refused", "done", "number", "bytes",
 ];
-const STATES: [&str; 7] = [
+const STATES: [&str; 8] = [
     "step",
     "unchanged",
     "variable",
     "reads",
     "block",
+    "length",
     "sum",
     "group",
 ];

@@ -17,6 +17,7 @@ pub fn second(lent: &mut Lent, busy: u64, call: &Call) -> Came {
     lent.groups = lends.groups();
     lent.values = lends.values;
     lent.blocks = lends.blocks;
+    lent.lengths = lends.lengths;
     lent.sums = lends.sums;
     came
 }

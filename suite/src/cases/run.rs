@@ -89,6 +89,11 @@ fn state_line(said: &str, ran: &Ran, after: &Lent, node: Node) -> Option<String>
             found.map_or("none".to_string(), |group| listed(members(group.set)))
         }
         "block" => return block_line(after, place(1)?, place(2)?),
+        "length" => {
+            let (number, block) = (place(1)?, place(2)?);
+            let length = length(after, number, block)?;
+            return Some(format!("length {} {} {}", number, block, length));
+        }
         "variable" => hex(variable(after, place(1)?)?),
         "sum" => hex(sum(after, place(1)?)?),
         "reads" => number(after, place(1)?, node)?.to_string(),
@@ -128,11 +133,15 @@ fn number(lent: &Lent, number: usize, node: Node) -> Option<i128> {
     read(true).or_else(|| read(false))
 }
 
+// What a block holds: as many of its bytes as its length says.
 fn block_line(lent: &Lent, number: usize, block: usize) -> Option<String> {
-    let size = curve(lent, number)?.size;
-    let start = block.checked_mul(size)?;
-    let bytes = lent
-        .curve_bytes(number)
-        .get(start..start.checked_add(size)?)?;
+    let start = block.checked_mul(curve(lent, number)?.size)?;
+    let length = length(lent, number, block)?;
+    let room = lent.curve_room(number).get(start..)?;
+    let bytes = room.get(..length.into())?;
     Some(format!("block {} {} {}", number, block, hex(bytes)))
+}
+
+fn length(lent: &Lent, number: usize, block: usize) -> Option<u16> {
+    lent.curve_lengths(number).get(block).copied()
 }

@@ -70,6 +70,7 @@ fn board(text: &mut String, line: usize, lent: &Lent) -> String {
     let functions = array(text, "uint8_t", &name("functions"), &lent.functions);
     let values = store(text, &name("values"), &lent.values);
     let blocks = store(text, &name("blocks"), &lent.blocks);
+    let lengths = array(text, "uint16_t", &name("lengths"), &lent.lengths);
     let sums = store(text, &name("sums"), &lent.sums);
     let sets: Vec<String> = lent
         .groups
@@ -78,12 +79,13 @@ fn board(text: &mut String, line: usize, lent: &Lent) -> String {
         .map(|set| format!("UINT64_C({})", set))
         .collect();
     format!(
-        "{}, {}, {}, {}, {}, {}, {{{}, {{{}}}}}, {}, {}",
+        "{}, {}, {}, {}, {}, {}, {}, {{{}, {{{}}}}}, {}, {}",
         variables,
         curves,
         functions,
         values,
         blocks,
+        lengths,
         sums,
         lent.groups.count,
         sets.join(", "),
@@ -210,16 +212,15 @@ fn came_to(text: &mut String, act: &Act, came: &Came) -> String {
     }
 }
 
-// FNV-1a over the stores, the sums and the group table's numbers, least significant byte first; ctest/cases.c has the same.
+// FNV-1a over the stores, the lengths, the sums and the group table's numbers, least significant byte first; ctest/cases.c has the same.
 fn digest(lent: &Lent) -> u64 {
     let groups = [&[lent.groups.count], &lent.groups.sets[..]].concat();
     let groups = groups.iter().flat_map(|number| number.to_le_bytes());
-    let bytes = lent
-        .values
-        .iter()
-        .chain(&lent.blocks)
-        .chain(&lent.sums)
-        .copied()
+    let lengths = lent.lengths.iter().flat_map(|length| length.to_le_bytes());
+    let stores = lent.values.iter().chain(&lent.blocks).copied();
+    let bytes = stores
+        .chain(lengths)
+        .chain(lent.sums.iter().copied())
         .chain(groups);
     bytes.fold(0xCBF2_9CE4_8422_2325, |digest, byte| {
         (digest ^ u64::from(byte)).wrapping_mul(0x0100_0000_01B3)

@@ -25,6 +25,14 @@ impl Digest {
         self.number(u64::from_le_bytes(rest));
     }
 
+    fn lengths(&mut self, lengths: &[u16]) {
+        self.number(lengths.len() as u64);
+        for four in lengths.chunks(4) {
+            let joined = four.iter().fold(0, |all, one| all << 16 | u64::from(*one));
+            self.number(joined);
+        }
+    }
+
     fn ending(&mut self, ending: &Ending) {
         let (kind, number) = match *ending {
             Ending::Reply(length) => (0, length as u64),
@@ -55,6 +63,7 @@ impl Digest {
         self.bytes(&proved.buffer);
         self.bytes(&proved.values);
         self.bytes(&proved.blocks);
+        self.lengths(&proved.lengths);
         self.bytes(&proved.sums);
         self.number(proved.groups[0].count);
         proved.groups[0]

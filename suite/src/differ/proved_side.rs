@@ -31,6 +31,7 @@ pub(super) struct Proved {
     address: Address,
     pub(super) values: Guarded<u8>,
     pub(super) blocks: Guarded<u8>,
+    pub(super) lengths: Guarded<u16>,
     pub(super) sums: Guarded<u8>,
     pub(super) given: Guarded<u8>,
     pub(super) buffer: Guarded<u8>,
@@ -52,6 +53,7 @@ impl Proved {
             },
             values: Guarded::new(MOST_LENT),
             blocks: Guarded::new(MOST_LENT),
+            lengths: Guarded::new(MOST_LENT),
             sums: Guarded::new(MOST_LENT),
             given: Guarded::new(MOST_LENT),
             buffer: Guarded::new(MOST_LENT),
@@ -67,6 +69,7 @@ impl Proved {
         self.address = lent.address;
         self.values.put(edge, &lent.values);
         self.blocks.put(edge, &lent.blocks);
+        self.lengths.put(edge, &lent.lengths);
         self.sums.put(edge, &lent.sums);
         self.buffer.put(edge, &[]);
     }
@@ -115,6 +118,7 @@ impl Proved {
             busy,
             &mut self.values,
             &mut self.blocks,
+            &mut self.lengths,
             &mut self.sums,
             &self.given,
             &mut self.buffer,
@@ -132,6 +136,7 @@ impl Proved {
             &self.groups[0],
             &self.values,
             &self.blocks,
+            &self.lengths,
             &self.sums,
             FunctionNumber(function),
             due,
@@ -147,6 +152,7 @@ impl Proved {
             &self.groups[0],
             &mut self.values,
             &self.blocks,
+            &self.lengths,
             &self.sums,
             VariableNumber(variable),
             &self.given,
@@ -160,6 +166,7 @@ impl Proved {
             &self.groups[0],
             &self.values,
             &self.blocks,
+            &mut self.lengths,
             &mut self.sums,
         );
         Ending::of_result(fresh, |()| Ending::Done)
@@ -184,6 +191,10 @@ impl Proved {
             ("the group table", self.groups[0] == second.groups()),
             ("the variables' store", self.values[..] == second.values[..]),
             ("the curves' store", self.blocks[..] == second.blocks[..]),
+            (
+                "the blocks' lengths",
+                self.lengths[..] == second.lengths[..],
+            ),
             ("the curves' sums", self.sums[..] == second.sums[..]),
             ("the bytes given", self.given[..] == call.given[..]),
         ]

@@ -1,6 +1,7 @@
 //! What was met of the curves' sums.
 use super::calls::{Call, Entry};
 use super::Ending;
+use crate::lent::held;
 use crate::second_lent::SecondLent;
 use cruachvel::{md5, SUM_SIZE};
 
@@ -90,5 +91,6 @@ impl Sums {
 
 // The sum of what a curve holds now.
 fn worked_out(second: &SecondLent, curve: u8) -> [u8; SUM_SIZE] {
-    md5(&second.blocks[second.lent.curve_place(curve.into())])
+    let (curves, curve) = (&second.lent.curves, usize::from(curve));
+    md5(&held(curves, &second.blocks, &second.lengths, curve))
 }

@@ -1,5 +1,6 @@
 //! What was met on the way.
 use super::calls::{Call, Entry};
+use super::lengths::{self, Lengths};
 use super::sums::Sums;
 use super::Ending;
 use crate::packets::{Wrong, COMMANDS};
@@ -17,9 +18,25 @@ pub struct Tally {
     silences: u64,
     /// How often 28 was answered with E8: for the variable written, and for the one read alone.
     busy_halves: [u64; 2],
+    lengths: Lengths,
     sums: Sums,
     /// The drafts that were sent: by command, then by the first thing wrong in it, then by the second.
     drafts: Vec<u64>,
+}
+
+/// What the counts have to know of a board as it was before a call.
+pub(super) struct Before {
+    lengths: lengths::Before,
+    sums: Vec<u8>,
+}
+
+impl Before {
+    pub(super) fn of(call: &Call, second: &SecondLent) -> Before {
+        Before {
+            lengths: lengths::Before::of(call, second),
+            sums: second.sums.clone(),
+        }
+    }
 }
 
 // Nothing wrong, or one of 01's wire errors.
@@ -39,16 +56,24 @@ impl Tally {
             runs: [0; 2],
             silences: 0,
             busy_halves: [0; 2],
+            lengths: Lengths::default(),
             sums: Sums::default(),
             drafts: vec![0; 256 * WAYS * WAYS],
         }
     }
 
-    /// A call that both nodes ended so, with the sums as they were before it and all else as it left it.
-    pub(super) fn note(&mut self, call: &Call, ending: &Ending, sums: &[u8], after: &SecondLent) {
+    /// A call that both nodes ended so, with what is to be known of before it and all else as it left it.
+    pub(super) fn note(
+        &mut self,
+        call: &Call,
+        ending: &Ending,
+        before: &Before,
+        after: &SecondLent,
+    ) {
         let buffer = &after.buffer;
         self.calls += 1;
-        self.sums.note(call, ending, sums, after);
+        self.lengths.note(call, ending, &before.lengths, after);
+        self.sums.note(call, ending, &before.sums, after);
         match *ending {
             Ending::Refused(number) => self.refusals[usize::from(number)] += 1,
             Ending::Run { due, .. } => self.runs[usize::from(due)] += 1,
@@ -93,6 +118,11 @@ impl Tally {
         )
     }
 
+    /// How often blocks that aren't full were read, written, covered and filled, and wrong lengths refused.
+    pub fn lengths(&self) -> String {
+        self.lengths.text()
+    }
+
     /// How often sums were read, renewed and worked out, and what else 0A and 42 got.
     pub fn sums(&self) -> String {
         let answered = |answer: u8| [0x0A, 0x42].map(|request| self.answered(request, answer));
@@ -124,6 +154,7 @@ impl Tally {
                 "28 with E8 for the variable written, and for the one read alone".to_string(),
             );
         }
+        missing.extend(self.lengths.not_met());
         missing.extend(self.sums.not_met());
         for command in COMMANDS {
             missing.extend(self.answers_not_met(command));

@@ -48,8 +48,8 @@ impl Drawer<'_> {
     pub fn any(&mut self) -> Draft {
         let command = match self.random.below(24) {
             0..=3 => 0x30,
-            // So that sums are read between block writes and renewals.
-            4 | 5 => self.random.choose(&[0x0A, 0x41, 0x42]),
+            // So that blocks and sums are read between block writes and renewals.
+            4..=6 => self.random.choose(&[0x0A, 0x40, 0x41, 0x41, 0x42]),
             _ => self.random.choose(&COMMANDS),
         };
         let possible: Vec<Wrong> = Wrong::ALL

@@ -61,7 +61,7 @@ impl Drawer<'_> {
         let block = if wrongs.contains(&Wrong::Value) {
             self.random.choose(&[blocks, blocks + 1, 0xFFFF])
         } else {
-            self.random.below(blocks.min(MOST_BLOCKS))
+            self.known_block(blocks.min(MOST_BLOCKS))
         };
         let block = (block.min(0xFFFF) as u16).to_be_bytes();
         let front = [number, block[0], block[1]];
@@ -76,6 +76,13 @@ impl Drawer<'_> {
             self.random.choose(&[size, some])
         };
         self.with_data(&front, length)
+    }
+
+    // Often the first, a middle one or the last, so that the same is written and read again where there are many.
+    fn known_block(&mut self, blocks: usize) -> usize {
+        let any = self.random.below(blocks);
+        let last = blocks.saturating_sub(1);
+        self.random.choose(&[any, any, any, 0, blocks / 2, last])
     }
 
     fn new_group(&mut self, wrongs: &[Wrong]) -> Vec<u8> {

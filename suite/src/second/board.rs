@@ -1,4 +1,4 @@
-//! The board's records, their limits, and where each value, block and sum stands.
+//! The board's records, their limits, and where each value, block, length and sum stands.
 #![forbid(unsafe_code)]
 
 use super::md5::md5;
@@ -189,20 +189,49 @@ pub(super) struct Curve {
     pub(super) blocks: usize,
     /// Where its first block starts in the curves' store.
     pub(super) start: usize,
+    /// Where its first block's length stands among the lengths.
+    pub(super) first_length: usize,
     number: usize,
 }
 
 impl Curve {
+    /// Where the lengths of its blocks stand among the lengths.
+    fn length_places(&self) -> Range<usize> {
+        self.first_length..self.first_length + self.blocks
+    }
+
     /// Where its sum stands among the sums.
     pub(super) fn sum_place(&self) -> Range<usize> {
         let start = SUM * self.number;
         start..start + SUM
     }
 
-    /// Sets its sum to that of its whole content, all its blocks in order.
-    pub(super) fn renew_sum(&self, blocks: &[u8], sums: &mut [u8]) {
-        let content = self.start..self.start + self.block_size * self.blocks;
-        sums[self.sum_place()].copy_from_slice(&md5(&blocks[content]));
+    /// Whether each of its blocks has 1 to the block size of bytes. All are looked at, also
+    /// behind a wrong one, so that the compiler can take many at once.
+    fn lengths_usable(&self, lengths: &[u16]) -> bool {
+        let most = self.block_size as u16;
+        let in_range = |all: bool, &length: &u16| all & (length >= 1) & (length <= most);
+        lengths[self.length_places()].iter().fold(true, in_range)
+    }
+
+    /// Makes all its blocks full.
+    pub(super) fn fill(&self, lengths: &mut [u16]) {
+        lengths[self.length_places()].fill(self.block_size as u16);
+    }
+
+    /// What it holds: block after block, of each as many bytes as its length says.
+    fn content(&self, blocks: &[u8], lengths: &[u16]) -> Vec<u8> {
+        let blocks = blocks[self.start..].chunks_exact(self.block_size);
+        let mut content = Vec::with_capacity(self.block_size * self.blocks);
+        for (block, &length) in blocks.zip(&lengths[self.length_places()]) {
+            content.extend_from_slice(&block[..usize::from(length)]);
+        }
+        content
+    }
+
+    /// Sets its sum to that of what it holds.
+    pub(super) fn renew_sum(&self, blocks: &[u8], lengths: &[u16], sums: &mut [u8]) {
+        sums[self.sum_place()].copy_from_slice(&md5(&self.content(blocks, lengths)));
     }
 }
 
@@ -214,20 +243,37 @@ pub(super) struct Board<'a> {
 }
 
 impl<'a> Board<'a> {
-    /// The board, or none if a record, store length or group breaks the limits.
+    /// The board, or none if a record, store length or group breaks the limits, if lengths
+    /// and sums are not one for each block and each curve, or if a length is out of range.
     pub(super) fn usable(
         table: &Table<'a>,
         groups: &Groups,
-        values: usize,
-        blocks: usize,
-        sums: usize,
+        values: &[u8],
+        blocks: &[u8],
+        lengths: &[u16],
+        sums: &[u8],
+    ) -> Option<Board<'a>> {
+        let board = Board::to_be_filled(table, groups, values, blocks, lengths, sums)?;
+        let in_range = board.curves().all(|curve| curve.lengths_usable(lengths));
+        in_range.then_some(board)
+    }
+
+    /// The same, whatever the lengths are: a fresh board makes all blocks full.
+    pub(super) fn to_be_filled(
+        table: &Table<'a>,
+        groups: &Groups,
+        values: &[u8],
+        blocks: &[u8],
+        lengths: &[u16],
+        sums: &[u8],
     ) -> Option<Board<'a>> {
         let layout = Layout::of(table.variables)?;
-        let curve_bytes = curve_bytes(table.curves)?;
+        let (curve_bytes, curve_blocks) = curve_bytes_and_blocks(table.curves)?;
         let fits = functions_usable(table.functions)
-            && values == layout.total
-            && blocks == curve_bytes
-            && sums == SUM * (table.curves.len() / 3)
+            && values.len() == layout.total
+            && blocks.len() == curve_bytes
+            && lengths.len() == curve_blocks
+            && sums.len() == SUM * (table.curves.len() / 3)
             && groups.usable(layout.all);
         if !fits {
             return None;
@@ -241,18 +287,20 @@ impl<'a> Board<'a> {
 
     /// The curves in order of number: each starts where those before it end.
     pub(super) fn curves(&self) -> impl Iterator<Item = Curve> + 'a {
-        let mut place = 0;
+        let (mut place, mut length_place) = (0, 0);
         let records = self.curves.chunks_exact(3).enumerate();
         records.map(move |(number, record)| {
             let block_size = record[1] as usize;
             let blocks = record[2] as usize;
-            let start = place;
+            let (start, first_length) = (place, length_place);
             place += block_size * blocks;
+            length_place += blocks;
             Curve {
                 writable: record[0] == 1,
                 block_size,
                 blocks,
                 start,
+                first_length,
                 number,
             }
         })
@@ -265,12 +313,12 @@ impl<'a> Board<'a> {
     }
 }
 
-/// All curves together, in bytes; none if a limit is broken.
-fn curve_bytes(curves: &[u32]) -> Option<usize> {
+/// All curves together, in bytes and in blocks; none if a limit is broken.
+fn curve_bytes_and_blocks(curves: &[u32]) -> Option<(usize, usize)> {
     if curves.len() % 3 != 0 || curves.len() / 3 > CURVES_MOST {
         return None;
     }
-    let mut total = 0;
+    let (mut total, mut total_blocks) = (0, 0);
     for record in curves.chunks_exact(3) {
         let (writable, block_size, blocks) = (record[0], record[1], record[2]);
         let allowed = writable <= 1
@@ -280,11 +328,12 @@ fn curve_bytes(curves: &[u32]) -> Option<usize> {
             return None;
         }
         total += block_size * blocks;
+        total_blocks += blocks;
         if total > CURVE_BYTES_MOST {
             return None;
         }
     }
-    Some(total as usize)
+    Some((total as usize, total_blocks as usize))
 }
 
 fn functions_usable(functions: &[u8]) -> bool {

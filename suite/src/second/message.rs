@@ -36,7 +36,15 @@ pub(super) struct Node<'a> {
     pub(super) busy: u64,
     pub(super) values: &'a mut [u8],
     pub(super) blocks: &'a mut [u8],
+    pub(super) lengths: &'a mut [u16],
     pub(super) sums: &'a mut [u8],
+}
+
+/// A named block: its curve, where it starts in the curves' store, and the place of its length.
+struct Block {
+    curve: Curve,
+    start: usize,
+    length_place: usize,
 }
 
 impl Node<'_> {
@@ -150,20 +158,23 @@ impl Node<'_> {
         if !rest.is_empty() {
             return Err(PAYLOAD_SIZE);
         }
-        let (_, place) = self.block(front)?;
+        let block = self.block(front)?;
+        let length = usize::from(self.lengths[block.length_place]);
+        let place = block.start..block.start + length;
         Ok(Answer::Block { front, place })
     }
 
     fn write_block(&mut self, payload: &[u8]) -> Result<Answer, u8> {
         let (front, data) = front(payload, PAYLOAD_SIZE)?;
-        let (curve, place) = self.block(front)?;
-        if data.is_empty() || data.len() > curve.block_size {
+        let block = self.block(front)?;
+        if data.is_empty() || data.len() > block.curve.block_size {
             return Err(PAYLOAD_SIZE);
         }
-        if !curve.writable {
+        if !block.curve.writable {
             return Err(READ_ONLY);
         }
-        self.blocks[place][..data.len()].copy_from_slice(data);
+        self.blocks[block.start..block.start + data.len()].copy_from_slice(data);
+        self.lengths[block.length_place] = data.len() as u16;
         Ok(Answer::Done)
     }
 
@@ -175,7 +186,7 @@ impl Node<'_> {
     /// For read-only curves too (2026-02): the sum is no part of what they hold.
     fn renew_sum(&mut self, payload: &[u8]) -> Result<Answer, u8> {
         let curve = self.curve(one(payload)?)?;
-        curve.renew_sum(self.blocks, self.sums);
+        curve.renew_sum(self.blocks, self.lengths, self.sums);
         Ok(Answer::Done)
     }
 
@@ -225,16 +236,19 @@ impl Node<'_> {
         self.board.curves().nth(usize::from(id)).ok_or(NO_SUCH_ID)
     }
 
-    /// The named curve and where the named block stands in the curves' store.
-    fn block(&self, front: [u8; 3]) -> Result<(Curve, Range<usize>), u8> {
+    /// The named block of the named curve.
+    fn block(&self, front: [u8; 3]) -> Result<Block, u8> {
         let [id, high, low] = front;
         let curve = self.curve(id)?;
-        let block = usize::from(u16::from_be_bytes([high, low]));
-        if block >= curve.blocks {
+        let number = usize::from(u16::from_be_bytes([high, low]));
+        if number >= curve.blocks {
             return Err(BAD_VALUE);
         }
-        let start = curve.start + block * curve.block_size;
-        Ok((curve, start..start + curve.block_size))
+        Ok(Block {
+            curve,
+            start: curve.start + number * curve.block_size,
+            length_place: curve.first_length + number,
+        })
     }
 
     /// Whether these variables take so many bytes.

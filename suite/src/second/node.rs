@@ -42,11 +42,12 @@ pub fn packet(
     busy: u64,
     values: &mut [u8],
     blocks: &mut [u8],
+    lengths: &mut [u16],
     sums: &mut [u8],
     request: &[u8],
     reply: &mut [u8],
 ) -> Outcome {
-    let board = match Board::usable(table, groups, values.len(), blocks.len(), sums.len()) {
+    let board = match Board::usable(table, groups, values, blocks, lengths, sums) {
         Some(board) => board,
         None => return Outcome::Refused(BOARD_UNUSABLE),
     };
@@ -60,6 +61,7 @@ pub fn packet(
         busy,
         values,
         blocks,
+        lengths,
         sums,
     };
     match node.carry_out(&request[1..request.len() - 1]) {
@@ -81,6 +83,7 @@ pub fn function_result(
     groups: &Groups,
     values: &[u8],
     blocks: &[u8],
+    lengths: &[u16],
     sums: &[u8],
     function: usize,
     due: bool,
@@ -88,7 +91,7 @@ pub fn function_result(
     output: &[u8],
     reply: &mut [u8],
 ) -> Outcome {
-    let board = match Board::usable(table, groups, values.len(), blocks.len(), sums.len()) {
+    let board = match Board::usable(table, groups, values, blocks, lengths, sums) {
         Some(board) => board,
         None => return Outcome::Refused(BOARD_UNUSABLE),
     };
@@ -112,17 +115,19 @@ pub fn function_result(
 }
 
 /// Stores a new value into any variable; refusals 1, 9, 10.
+#[allow(clippy::too_many_arguments)]
 pub fn board_store(
     table: &Table,
     groups: &Groups,
     values: &mut [u8],
     blocks: &[u8],
+    lengths: &[u16],
     sums: &[u8],
     variable: usize,
     bytes: &[u8],
 ) -> Result<(), u8> {
-    let board = Board::usable(table, groups, values.len(), blocks.len(), sums.len())
-        .ok_or(BOARD_UNUSABLE)?;
+    let board =
+        Board::usable(table, groups, values, blocks, lengths, sums).ok_or(BOARD_UNUSABLE)?;
     if variable >= board.layout.variables.len() {
         return Err(NO_SUCH_VARIABLE);
     }
@@ -136,18 +141,20 @@ pub fn board_store(
     Ok(())
 }
 
-/// Works out every curve's sum, as a fresh board does; refusal 1.
+/// Makes every block full and works out every curve's sum, as a fresh board does; refusal 1.
 pub fn fresh_board(
     table: &Table,
     groups: &Groups,
     values: &[u8],
     blocks: &[u8],
+    lengths: &mut [u16],
     sums: &mut [u8],
 ) -> Result<(), u8> {
-    let board = Board::usable(table, groups, values.len(), blocks.len(), sums.len())
-        .ok_or(BOARD_UNUSABLE)?;
+    let board =
+        Board::to_be_filled(table, groups, values, blocks, lengths, sums).ok_or(BOARD_UNUSABLE)?;
     for curve in board.curves() {
-        curve.renew_sum(blocks, sums);
+        curve.fill(lengths);
+        curve.renew_sum(blocks, lengths, sums);
     }
     Ok(())
 }

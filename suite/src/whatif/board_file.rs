@@ -1,9 +1,9 @@
 //! A board described in a text file; docs/BOARD-FILE.md says how.
-use super::bytes::{bytes, counted};
+use super::bytes::{bytes, counted, repeated};
 use super::call::variables;
-use super::things::{is_signed, missing, Setting};
+use super::things::{is_signed, missing, missing_of, Setting};
 use crate::lent::Lent;
-use cruachvel::{Address, Groups, Kind, Refusal, Variable, VariableNumber, SUM_SIZE};
+use cruachvel::{md5, Address, Groups, Kind, Refusal, Variable, VariableNumber, SUM_SIZE};
 use std::fmt;
 use std::path::Path;
 use std::str::FromStr;
@@ -65,14 +65,18 @@ impl<'a> Words<'a> {
 
     // A number, as far as its place in the record can hold it; whether the node takes it is the node's to say.
     fn number<T: FromStr>(&mut self, what: &str, most: u32) -> Result<T, String> {
-        let word = self.next(what)?;
-        word.parse().map_err(|_| match word.parse::<i128>() {
-            Ok(number) => format!(
-                "{} can't be {}: what the node is lent has room for 0 to {} there",
-                what, number, most
-            ),
-            Err(_) => format!("{} is a number, and not {:?}", what, word),
-        })
+        number(self.next(what)?, what, most)
+    }
+
+    // The lengths that all further words stand for; 4*3 is 4 three times.
+    fn lengths(&mut self) -> Result<Vec<u16>, String> {
+        let mut all = Vec::new();
+        while let Some(word) = self.rest.pop() {
+            let (length, times) = repeated(word)?;
+            let length = number(length, "a length", u16::MAX.into())?;
+            all.resize(all.len() + times, length);
+        }
+        Ok(all)
     }
 
     // The bytes that all further words stand for.
@@ -100,7 +104,25 @@ impl<'a> Words<'a> {
     }
 }
 
-const ONCE: [&str; 6] = ["address", "multicast", "busy", "values", "blocks", "sums"];
+fn number<T: FromStr>(word: &str, what: &str, most: u32) -> Result<T, String> {
+    word.parse().map_err(|_| match word.parse::<i128>() {
+        Ok(number) => format!(
+            "{} can't be {}: what the node is lent has room for 0 to {} there",
+            what, number, most
+        ),
+        Err(_) => format!("{} is a number, and not {:?}", what, word),
+    })
+}
+
+const ONCE: [&str; 7] = [
+    "address",
+    "multicast",
+    "busy",
+    "values",
+    "blocks",
+    "lengths",
+    "sums",
+];
 
 // A board in the making.
 struct Draft {
@@ -109,10 +131,13 @@ struct Draft {
     once: Vec<&'static str>,
     // Bytes for a curve's first blocks: the line, the curve and the bytes.
     curve_bytes: Vec<(usize, usize, Vec<u8>)>,
+    // Lengths of blocks, each with its line, curve and block.
+    block_lengths: Vec<(usize, [usize; 2], u16)>,
     // Likewise a curve's sum.
     curve_sums: Vec<(usize, usize, Vec<u8>)>,
     whole_values: Option<Vec<u8>>,
     whole_blocks: Option<Vec<u8>>,
+    whole_lengths: Option<Vec<u16>>,
     whole_sums: Option<Vec<u8>>,
 }
 
@@ -129,15 +154,18 @@ impl Draft {
             },
             values: Vec::new(),
             blocks: Vec::new(),
+            lengths: Vec::new(),
             sums: Vec::new(),
         };
         Draft {
             setting: Setting { lent, busy: 0 },
             once: Vec::new(),
             curve_bytes: Vec::new(),
+            block_lengths: Vec::new(),
             curve_sums: Vec::new(),
             whole_values: None,
             whole_blocks: None,
+            whole_lengths: None,
             whole_sums: None,
         }
     }
@@ -153,14 +181,16 @@ impl Draft {
             "multicast" => self.multicast(words)?,
             "variable" => self.variable(words)?,
             "curve" => self.curve(words, line)?,
+            "length" => self.length(words, line)?,
             "sum" => self.sum(words, line)?,
             "function" => self.function(words)?,
             "group" => self.group(words)?,
             "busy" => self.setting.busy = words.set()?,
             "values" => self.whole_values = Some(words.bytes()?),
             "blocks" => self.whole_blocks = Some(words.bytes()?),
+            "lengths" => self.whole_lengths = Some(words.lengths()?),
             "sums" => self.whole_sums = Some(words.bytes()?),
-            _ => return Err(format!("{:?} is none of address, multicast, variable, curve, sum, function, group, busy, values, blocks and sums", name)),
+            _ => return Err(format!("{:?} is none of address, multicast, variable, curve, length, sum, function, group, busy, values, blocks, lengths and sums", name)),
         }
         words.end()
     }
@@ -224,6 +254,25 @@ impl Draft {
         Ok(())
     }
 
+    fn length(&mut self, words: &mut Words, line: usize) -> Result<(), String> {
+        let curve = words.number::<u32>("the curve", u32::MAX)? as usize;
+        let block = words.number::<u32>("the block", u32::MAX)? as usize;
+        let length = words.number("the length", u16::MAX.into())?;
+        let place = [curve, block];
+        if self
+            .block_lengths
+            .iter()
+            .any(|(_, given, _)| *given == place)
+        {
+            return Err(format!(
+                "block {} of curve {} has one line with its length",
+                block, curve
+            ));
+        }
+        self.block_lengths.push((line, place, length));
+        Ok(())
+    }
+
     fn sum(&mut self, words: &mut Words, line: usize) -> Result<(), String> {
         let number = words.number::<u32>("the curve", u32::MAX)? as usize;
         let bytes = words.bytes()?;
@@ -278,8 +327,17 @@ impl Draft {
         if let Some(blocks) = self.whole_blocks {
             lent.blocks = blocks;
         }
-        // Where the node refuses the board, they stay zeros, and no call shows them.
-        let _ = lent.fresh_board();
+        for (line, place, length) in self.block_lengths {
+            let told = put_length(lent, place, length);
+            told.map_err(|message| Mistake { line, message })?;
+        }
+        if let Some(lengths) = self.whole_lengths {
+            lent.lengths = lengths;
+        }
+        for number in 0..lent.curves.len() / 3 {
+            let sum = md5(&lent.curve_bytes(number));
+            lent.sums[number * SUM_SIZE..(number + 1) * SUM_SIZE].copy_from_slice(&sum);
+        }
         for (line, number, sum) in self.curve_sums {
             let told = put_sum(lent, number, &sum);
             told.map_err(|message| Mistake { line, message })?;
@@ -307,13 +365,26 @@ fn put_curve(lent: &mut Lent, number: usize, bytes: &[u8]) -> Result<(), String>
     Ok(())
 }
 
-fn put_sum(lent: &mut Lent, number: usize, sum: &[u8]) -> Result<(), String> {
-    if let Some(message) = missing("curve", number, lent.curves.len() / 3) {
-        return Err(message);
+fn put_length(lent: &mut Lent, [number, block]: [usize; 2], length: u16) -> Result<(), String> {
+    known_curve(lent, number)?;
+    let place = lent.length_place(number);
+    missing_of("curve", "block", block, place.len()).map_or(Ok(()), Err)?;
+    // Where the blocks are too many for the node, there are fewer lengths.
+    if let Some(given) = lent.lengths.get_mut(place.start + block) {
+        *given = length;
     }
+    Ok(())
+}
+
+fn put_sum(lent: &mut Lent, number: usize, sum: &[u8]) -> Result<(), String> {
+    known_curve(lent, number)?;
     let start = number * SUM_SIZE;
     lent.sums[start..start + SUM_SIZE].copy_from_slice(sum);
     Ok(())
+}
+
+fn known_curve(lent: &Lent, number: usize) -> Result<(), String> {
+    missing("curve", number, lent.curves.len() / 3).map_or(Ok(()), Err)
 }
 
 fn writable(words: &mut Words) -> Result<bool, String> {

@@ -1,14 +1,15 @@
-//! What a call changed in values, curves, sums and groups.
+//! What a call changed in values, curves, their blocks' lengths, sums and groups.
 use super::bytes::shown;
 use super::things::{curve, number, set_text, value};
 use crate::lent::Lent;
 use cruachvel::Groups;
 use std::ops::Range;
 
-/// A line for each variable, block, sum and group that is not what it was.
+/// A line for each variable, block, length, sum and group that is not what it was; one for neighbours whose lengths changed alike.
 pub fn changes(before: &Lent, after: &Lent) -> Vec<String> {
     let mut lines = values(before, after);
     lines.extend(blocks(before, after));
+    lines.extend(lengths(before, after));
     lines.extend(sums(before, after));
     lines.extend(groups(&before.groups, &after.groups));
     lines
@@ -41,8 +42,8 @@ fn blocks(before: &Lent, after: &Lent) -> Vec<String> {
     let mut lines = Vec::new();
     for number in 0..before.curves.len() / 3 {
         let size = curve(before, number).map_or(1, |curve| curve.size.max(1));
-        let old = before.curve_bytes(number).chunks(size);
-        let new = after.curve_bytes(number).chunks(size);
+        let old = before.curve_room(number).chunks(size);
+        let new = after.curve_room(number).chunks(size);
         for (block, (old, new)) in old
             .zip(new)
             .enumerate()
@@ -54,6 +55,33 @@ fn blocks(before: &Lent, after: &Lent) -> Vec<String> {
                 "curve {}, block {}, from byte {}: {} -> {}",
                 number, block, start, old, new
             ));
+        }
+    }
+    lines
+}
+
+fn lengths(before: &Lent, after: &Lent) -> Vec<String> {
+    let mut lines = Vec::new();
+    for number in 0..before.curves.len() / 3 {
+        let (old, new) = (before.curve_lengths(number), after.curve_lengths(number));
+        let pairs: Vec<(&u16, &u16)> = old.iter().zip(new).collect();
+        let mut block = 0;
+        while let Some((old, new)) = pairs.get(block) {
+            let alike = pairs[block..]
+                .iter()
+                .take_while(|pair| **pair == (old, new));
+            let after = block + alike.count();
+            if old != new {
+                let blocks = match after - block {
+                    1 => format!("block {}", block),
+                    _ => format!("blocks {} to {}", block, after - 1),
+                };
+                lines.push(format!(
+                    "curve {}, {}, length: {} -> {}",
+                    number, blocks, old, new
+                ));
+            }
+            block = after;
         }
     }
     lines

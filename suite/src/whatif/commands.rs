@@ -48,7 +48,7 @@ impl Amended {
 }
 
 /// A row of 01's table: request, payload and answer in 01's words, with 001's name of the command. In place of a row, a command may have
-/// the words of the change request that adds it.
+/// the words of the change request that adds it, and beside either those of one that amends it.
 #[derive(Debug)]
 pub struct Command {
     pub code: u8,
@@ -57,6 +57,7 @@ pub struct Command {
     pub answer: &'static str,
     pub front: &'static [Field],
     pub rest: Rest,
+    pub added: Option<Amended>,
     pub amended: Option<Amended>,
 }
 
@@ -71,19 +72,23 @@ impl Command {
         front + usize::from(self.rest == Rest::Members)
     }
 
-    /// The row as it stands in 01, or the words of the change request.
+    /// The row as it stands in 01, or the words of the change request that adds the command.
     pub fn quote(&self) -> String {
-        match &self.amended {
-            Some(amended) => amended.words.to_string(),
+        match &self.added {
+            Some(added) => added.words.to_string(),
             None => format!("| {:02X} | {} | {} |", self.code, self.payload, self.answer),
         }
     }
 
-    /// The same, with where it stands.
+    /// The same, with where it stands, and what amends it.
     pub fn text(&self) -> String {
-        match &self.amended {
-            Some(amended) => amended.text(),
+        let text = match &self.added {
+            Some(added) => added.text(),
             None => format!("the command's row: {}", self.quote()),
+        };
+        match &self.amended {
+            Some(amended) => format!("{}, {}", text, amended.text()),
+            None => text,
         }
     }
 }
@@ -102,6 +107,7 @@ const fn row(
         answer,
         front,
         rest,
+        added: None,
         amended: None,
     }
 }
@@ -114,11 +120,22 @@ const fn of_sums(
     words: &'static str,
 ) -> Command {
     Command {
-        amended: Some(Amended {
+        added: Some(Amended {
             request: "2026-02",
             words,
         }),
         ..row(code, name, ("curve", answer), &[Curve], Nothing)
+    }
+}
+
+// A command that goes by the lengths of blocks.
+const fn by_lengths(command: Command) -> Command {
+    Command {
+        amended: Some(Amended {
+            request: "2026-03",
+            words: "Each block gets a length of its own, 1 to the block size, full on a fresh board. A write sets it, a read returns that many bytes, and the checksum covers only those, in block order.",
+        }),
+        ..command
     }
 }
 
@@ -143,9 +160,9 @@ pub const COMMANDS: [Command; 20] = [
     row(0x28, "write and read variables", ("variable written, variable read, value", "11: the second's value, after the write"), &[Variable, VariableRead], Value),
     row(0x30, "create a group", ("variables of a new group", "E0"), &[], Members),
     row(0x32, "remove all groups", ("none", "E0; groups 3 to 7 are gone, their numbers free again"), &[], Nothing),
-    row(0x40, "request a curve block", ("curve, block in two bytes", "41: curve, block, the block's bytes"), &[Curve, Block], Nothing),
-    row(0x41, "curve block", ("curve, block in two bytes, data", "E0"), &[Curve, Block], Data),
-    of_sums(0x42, "recalculate the checksum of a curve", "E0", "42 (payload: curve; answer E0)"),
+    by_lengths(row(0x40, "request a curve block", ("curve, block in two bytes", "41: curve, block, the block's bytes"), &[Curve, Block], Nothing)),
+    by_lengths(row(0x41, "curve block", ("curve, block in two bytes, data", "E0"), &[Curve, Block], Data)),
+    by_lengths(of_sums(0x42, "recalculate the checksum of a curve", "E0", "42 (payload: curve; answer E0)")),
     row(0x50, "execute a function", ("function, input", "the function is to be run"), &[Function], Input),
 ];
 

@@ -121,7 +121,7 @@ impl Came {
         match self {
             Came::Ended(ended) => ended.text(),
             Came::Done => "the value is stored".to_string(),
-            Came::Fresh => "the sums are worked out".to_string(),
+            Came::Fresh => "all blocks are full, and the sums are worked out".to_string(),
             Came::Number(number) => format!("the number {}", number),
             Came::Bytes(bytes) => format!("the bytes {}", shown(bytes)),
         }

@@ -1,6 +1,7 @@
 //! 01's local refusals: their conditions, and why a call meets one.
 use super::bytes::counted;
 use super::call::{sign_name, Call};
+use super::commands::Amended;
 use super::packet::Packet;
 use super::table;
 use super::things::{function, is_signed, kind_name, missing, Setting};
@@ -23,6 +24,28 @@ pub fn condition(refusal: Refusal) -> &'static str {
         Refusal::WrongKind => "plain, or signed asked of unsigned, or the reverse",
         Refusal::DoesNotFit => "number outside the variable's range",
     }
+}
+
+const LENGTHS_AND_SUMS: Amended = Amended {
+    request: "2026-03",
+    words: "A length out of range, lengths not one per block or sums not one per curve make the board unusable.",
+};
+
+/// The words of a change request by which a refusal is given to a call, if it isn't by 01's own.
+pub fn amended(refusal: Refusal, call: &Call, setting: &Setting) -> Option<&'static Amended> {
+    let breaks = match (refusal, call) {
+        (Refusal::BoardUnusable, Call::Fresh) => {
+            table::breaks_amendment(&table::filled(&setting.lent))
+        }
+        (Refusal::BoardUnusable, _) => table::breaks_amendment(&setting.lent),
+        _ => false,
+    };
+    breaks.then_some(&LENGTHS_AND_SUMS)
+}
+
+/// All words of change requests that give a refusal.
+pub fn amendments() -> [&'static str; 1] {
+    [LENGTHS_AND_SUMS.words]
 }
 
 /// Why a refusal's condition holds for a packet, if it does. Other refusals are not looked at.
@@ -70,9 +93,8 @@ pub fn call_reason(refusal: Refusal, call: &Call, setting: &Setting) -> Option<S
     let lent = &setting.lent;
     match (refusal, call) {
         (_, Call::Packet(request)) => reason(refusal, Packet(request), setting),
-        (Refusal::BoardUnusable, Call::Result { .. } | Call::Store(..) | Call::Fresh) => {
-            table::broken(lent)
-        }
+        (Refusal::BoardUnusable, Call::Result { .. } | Call::Store(..)) => table::broken(lent),
+        (Refusal::BoardUnusable, Call::Fresh) => table::broken(&table::filled(lent)),
         (Refusal::BoardUnusable, _) => table::variables(&lent.variables),
         (Refusal::NoSuchFunction, Call::Result { function, .. }) => {
             missing("function", *function, lent.functions.len() / 2)

@@ -5,7 +5,7 @@ use super::commands::{reply_name, Field};
 use super::packet::Packet;
 use super::request::{checksum_part, field_text, numbers_part, size_part, values_parts};
 use super::sheet::Part;
-use super::things::{curve_text, function, function_text, group, group_text};
+use super::things::{self, curve_text, filled_text, function, function_text, group, group_text};
 use super::things::{sum_text, type_name, Curve, Setting};
 use crate::lent::Lent;
 use cruachvel::{md5, SUM_SIZE};
@@ -91,7 +91,7 @@ fn groups(payload: &[u8], lent: &Lent) -> Vec<Part> {
 
 // The payload as the sum of each curve that holds what it is of.
 fn sums(payload: &[u8], lent: &Lent) -> Vec<Part> {
-    let fits = |number: &usize| md5(lent.curve_bytes(*number)) == payload;
+    let fits = |number: &usize| md5(&lent.curve_bytes(*number)) == payload;
     let numbers = (0..lent.curves.len() / 3).filter(fits);
     let part = |number: usize| Part::new("sum", payload, sum_text(number, false));
     numbers.map(part).collect()
@@ -131,11 +131,12 @@ fn payload_parts(code: u8, payload: &[u8], lent: &Lent) -> Vec<Part> {
         (0x11 | 0x13, _) => whole("value"),
         (0x41, [curve, high, low, data @ ..]) => {
             let block = u16::from_be_bytes([*high, *low]);
-            let curve_text = field_text(Field::Curve, usize::from(*curve), lent);
+            let number = usize::from(*curve);
+            let size = things::curve(lent, number).map_or(data.len(), |curve| curve.size);
             vec![
-                Part::new("curve", &[*curve], curve_text),
+                Part::new("curve", &[*curve], field_text(Field::Curve, number, lent)),
                 Part::new("block", &[*high, *low], format!("block {}", block)),
-                Part::new("data", data, counted(data.len(), "byte")),
+                Part::new("data", data, filled_text(data.len(), size)),
             ]
         }
         (0x51, _) => whole("output"),

@@ -6,8 +6,8 @@ use super::ended::due_text;
 use super::packet::Packet;
 use super::sheet::Part;
 use super::things::{
-    curve, curve_text, function, function_text, group, group_text, kind_name, listed, number,
-    variable_text, Setting,
+    block_text, function, function_text, group, group_text, kind_name, lent_curve_text, listed,
+    number, variable_text, Setting,
 };
 use crate::lent::{members, Lent};
 use cruachvel::Address;
@@ -150,10 +150,11 @@ fn field_part(field: Field, bytes: &[u8], request: Packet, lent: &Lent) -> Part 
         Field::Block => "block",
         Field::Function => "function",
     };
-    let meaning = match request.field(field) {
-        Some(value) => field_text(field, value, lent),
-        None if bytes.is_empty() => "missing".to_string(),
-        None => "cut off".to_string(),
+    let meaning = match (request.field(field), request.field(Field::Curve)) {
+        (Some(block), Some(curve)) if field == Field::Block => block_text(lent, curve, block),
+        (Some(value), _) => field_text(field, value, lent),
+        (None, _) if bytes.is_empty() => "missing".to_string(),
+        (None, _) => "cut off".to_string(),
     };
     Part::new(name, bytes, meaning)
 }
@@ -167,7 +168,7 @@ pub fn field_text(field: Field, value: usize, lent: &Lent) -> String {
             ("to be read: variable", text)
         }
         Field::Group => ("group", group(lent, value).map(group_text)),
-        Field::Curve => ("curve", curve(lent, value).map(curve_text)),
+        Field::Curve => ("curve", lent_curve_text(lent, value)),
         Field::Function => ("function", function(lent, value).map(function_text)),
         Field::Block => return format!("block {}", value),
         Field::Operation => {

@@ -12,16 +12,16 @@ use cruachvel::Refusal;
 /// A rule of 01, and what made it apply.
 #[derive(Debug)]
 pub enum Rule {
-    /// A local refusal.
-    Refusal(Refusal, String),
+    /// A local refusal, by 01's condition or by the words of a change request.
+    Refusal(Refusal, Option<&'static Amended>, String),
     /// A step of the wire errors, for a request with this code, if it has one.
     Step(&'static Step, Option<u8>, String),
     /// No refusal and no wire error: the command's row.
     Row(&'static Command),
     /// No refusal: what 01 says of such a call.
     Sentence(&'static str),
-    /// No refusal: what a change request says of such a call.
-    Amended(Amended),
+    /// No refusal: what change requests say of such a call.
+    Amended(&'static [Amended]),
     /// A multicast packet: what its message would have been answered with, and by which rule.
     Multicast(Ended, Box<Rule>),
     /// None that is known to give this outcome for these bytes.
@@ -41,28 +41,36 @@ const UNSIGNED: &str =
     "plain bytes, unsigned or signed; big or little endian; a number has size 1, 2, 4 or 8";
 const WAY_BACK: &str =
     "The way back accepts exactly the numbers of that range and writes the only bytes that read as them.";
-const FRESH: Amended = Amended {
-    request: "2026-02",
-    words: "Each curve's sum is part of the state: a fresh board works it out, a block write leaves it stale, 42 renews it, for read-only curves too.",
-};
+const FRESH: [Amended; 2] = [
+    Amended {
+        request: "2026-02",
+        words: "Each curve's sum is part of the state: a fresh board works it out, a block write leaves it stale, 42 renews it, for read-only curves too.",
+    },
+    Amended {
+        request: "2026-03",
+        words: "Each block gets a length of its own, 1 to the block size, full on a fresh board.",
+    },
+];
 pub const BUSY: &str =
     "Busy marks, bit n of a 64-bit number for variable n (higher bits count for nothing), come from the board with each packet.";
 
 impl Rule {
     pub fn lines(&self) -> Vec<String> {
         match self {
-            Rule::Refusal(refusal, reason) => vec![
-                format!(
-                    "refusal {}, {}: \"{}\"",
-                    refusal.number(),
-                    refusal,
-                    refusals::condition(*refusal)
-                ),
-                reason.clone(),
-            ],
+            Rule::Refusal(refusal, amended, reason) => {
+                let named = format!("refusal {}, {}", refusal.number(), refusal);
+                let rule = match amended {
+                    Some(amended) => format!("{}, {}", named, amended.text()),
+                    None => format!("{}: \"{}\"", named, refusals::condition(*refusal)),
+                };
+                vec![rule, reason.clone()]
+            }
             Rule::Step(step, code, reason) => vec![step.text(*code), reason.clone()],
             Rule::Sentence(sentence) => vec![format!("no refusal; \"{}\"", sentence)],
-            Rule::Amended(amended) => vec![format!("no refusal; {}", amended.text())],
+            Rule::Amended(all) => {
+                let texts: Vec<String> = all.iter().map(Amended::text).collect();
+                vec![format!("no refusal; {}", texts.join("; "))]
+            }
             Rule::Row(command) => vec![format!(
                 "no refusal and no wire error; {}",
                 command.text()
@@ -102,23 +110,21 @@ pub fn quotes() -> Vec<String> {
         let amended = step.amended.as_ref().map(|amended| amended.words);
         [step.words].into_iter().chain(amended).map(str::to_string)
     });
-    let rows = COMMANDS.iter().map(Command::quote);
+    let rows = COMMANDS.iter().flat_map(|command| {
+        let amended = command.amended.as_ref().map(|amended| amended.words);
+        [command.quote()]
+            .into_iter()
+            .chain(amended.map(str::to_string))
+    });
     let conditions = Refusal::ALL.iter().map(|refusal| {
         let (number, condition) = (refusal.number(), refusals::condition(*refusal));
         format!("| {} | {} | {} |", number, refusal, condition)
     });
     let all = steps.chain(rows).chain(conditions);
-    let sentences = [
-        MULTICAST,
-        STORE,
-        RESULT,
-        SIGNED,
-        UNSIGNED,
-        WAY_BACK,
-        BUSY,
-        FRESH.words,
-    ];
-    all.chain(sentences.map(str::to_string)).collect()
+    let sentences = [MULTICAST, STORE, RESULT, SIGNED, UNSIGNED, WAY_BACK, BUSY];
+    let amendments = FRESH.iter().map(|amended| amended.words);
+    let others = amendments.chain(refusals::amendments()).chain(sentences);
+    all.chain(others.map(str::to_string)).collect()
 }
 
 /// The rule that gave this to a call, on the board as it was before.
@@ -131,15 +137,16 @@ pub fn rule_of(call: &Call, came: &Came, before: &Setting) -> Rule {
 }
 
 fn refused(refusal: Refusal, call: &Call, before: &Setting) -> Rule {
+    let amended = refusals::amended(refusal, call, before);
     refusals::call_reason(refusal, call, before)
-        .map_or(Rule::None, |reason| Rule::Refusal(refusal, reason))
+        .map_or(Rule::None, |reason| Rule::Refusal(refusal, amended, reason))
 }
 
 // What 01 says of a call that is not refused.
 fn sentence(call: &Call) -> Rule {
     Rule::Sentence(match call {
         Call::Packet(_) => return Rule::None,
-        Call::Fresh => return Rule::Amended(FRESH),
+        Call::Fresh => return Rule::Amended(&FRESH),
         Call::Store(..) => STORE,
         Call::Result { .. } => RESULT,
         Call::Read { signed: true, .. } => SIGNED,
@@ -151,10 +158,7 @@ fn sentence(call: &Call) -> Rule {
 /// The rule that gave this outcome to a request, on the board as it was before.
 pub fn rule(ended: &Ended, request: Packet, before: &Setting) -> Rule {
     match ended {
-        Ended::Refused(refusal) => match refusals::reason(*refusal, request, before) {
-            Some(reason) => Rule::Refusal(*refusal, reason),
-            None => Rule::None,
-        },
+        Ended::Refused(refusal) => refused(*refusal, &Call::Packet(request.0.to_vec()), before),
         Ended::Silence => multicast(request, before),
         _ => match ended.code() {
             Some(error @ 0xE1..=0xFF) => match step_of(error, request, before) {

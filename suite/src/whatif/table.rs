@@ -1,7 +1,7 @@
-//! What in a board breaks 01's table: the reason of refusal 1.
+//! What in a board breaks 01's table, as 2026-03 amends it: the reason of refusal 1.
 use super::bytes::{counted, grouped};
 use super::things::{curve, listed};
-use crate::lent::{all_declared, members, sums_length, values_length, Lent};
+use crate::lent::{all_declared, full_lengths, members, sums_length, values_length, Lent};
 use cruachvel::{Kind, Variable, MOST_BLOCKS, MOST_CURVE_BYTES, MOST_VALUE_BYTES, MOST_VARIABLES};
 
 /// The first thing that breaks the table, if something does.
@@ -10,7 +10,26 @@ pub fn broken(lent: &Lent) -> Option<String> {
         .or_else(|| curves(lent))
         .or_else(|| functions(&lent.functions))
         .or_else(|| stores(lent))
+        .or_else(|| lengths(lent))
         .or_else(|| groups(lent))
+}
+
+/// A board as a fresh board looks at it: if there is a length for each block, it may be any, since all blocks are made full.
+pub fn filled(lent: &Lent) -> Lent {
+    let full = full_lengths(&lent.curves);
+    let mut filled = lent.clone();
+    if filled.lengths.len() == full.len() {
+        filled.lengths = full;
+    }
+    filled
+}
+
+/// Whether the first thing that breaks it are lengths or sums, of which 01 itself says nothing.
+pub fn breaks_amendment(lent: &Lent) -> bool {
+    let mut mended = lent.clone();
+    mended.lengths = full_lengths(&lent.curves);
+    mended.sums = vec![0; sums_length(&lent.curves)];
+    broken(lent) != broken(&mended)
 }
 
 /// The same for the variable records alone, which is what the readings look at.
@@ -135,6 +154,28 @@ fn stores(lent: &Lent) -> Option<String> {
         name,
         counted(lent, "byte"),
         grouped(right)
+    ))
+}
+
+fn lengths(lent: &Lent) -> Option<String> {
+    let full = full_lengths(&lent.curves);
+    if lent.lengths.len() != full.len() {
+        return Some(format!(
+            "{} for {}; each block has one",
+            counted(lent.lengths.len(), "length"),
+            counted(full.len(), "block")
+        ));
+    }
+    let pairs = || lent.lengths.iter().zip(&full);
+    let place = pairs().position(|(length, full)| !(1..=*full).contains(length))?;
+    let of_curve = |number: &usize| lent.length_place(*number).contains(&place);
+    let number = (0..lent.curves.len() / 3).find(of_curve)?;
+    Some(format!(
+        "block {} of curve {} has length {}; 1 to {} are allowed",
+        place - lent.length_place(number).start,
+        number,
+        grouped(lent.lengths[place].into()),
+        grouped(full[place].into())
     ))
 }
 

@@ -63,13 +63,18 @@ pub fn number(lent: &Lent, variable: usize, bytes: &[u8]) -> Option<i128> {
     signed.or_else(|_| unsigned()).ok()
 }
 
-/// What is said of a number from which on there are no such things, if it is one.
+/// What is said of a number from which on a board has no such things, if it is one.
 pub fn missing(name: &str, number: usize, count: usize) -> Option<String> {
+    missing_of("board", name, number, count)
+}
+
+/// The same of things that something on the board has.
+pub fn missing_of(owner: &str, name: &str, number: usize, count: usize) -> Option<String> {
     let has = match count.checked_sub(1) {
         None => "has none".to_string(),
         Some(last) => format!("has 0 to {}", last),
     };
-    (number >= count).then(|| format!("there is no {} {}: the board {}", name, number, has))
+    (number >= count).then(|| format!("there is no {} {}: the {} {}", name, number, owner, has))
 }
 
 pub fn type_name(writable: bool) -> &'static str {
@@ -136,6 +141,53 @@ pub fn curve_text(curve: Curve) -> String {
     let of = counted(curve.size, "byte");
     let blocks = counted(curve.blocks, "block");
     format!("{}, {} of {}", type_name(curve.writable), blocks, of)
+}
+
+/// A curve of a board: the same, and how many of its blocks are not full.
+pub fn lent_curve_text(lent: &Lent, number: usize) -> Option<String> {
+    let curve = curve(lent, number)?;
+    let lengths = lent.curve_lengths(number).iter();
+    let short = lengths.filter(|length| usize::from(**length) != curve.size);
+    Some(match short.count() {
+        0 => curve_text(curve),
+        count => format!("{}, {} not full", curve_text(curve), grouped(count)),
+    })
+}
+
+/// How many bytes a block has, where a full one has `size`.
+pub fn filled_text(bytes: usize, size: usize) -> String {
+    if bytes < size {
+        format!("{} of {}", grouped(bytes), counted(size, "byte"))
+    } else {
+        counted(bytes, "byte")
+    }
+}
+
+/// A block of a curve, with its length, if it has one.
+pub fn block_text(lent: &Lent, number: usize, block: usize) -> String {
+    let length = lent.curve_lengths(number).get(block);
+    match (curve(lent, number), length) {
+        (Some(curve), Some(length)) => {
+            let filled = filled_text(usize::from(*length), curve.size);
+            format!("block {}: {}", block, filled)
+        }
+        _ => format!("block {}", block),
+    }
+}
+
+/// Lengths as a board file takes them: a word for each, or for neighbours that are alike, up to the most that a word can stand for.
+pub fn length_words(lengths: &[u16]) -> Vec<String> {
+    let (mut words, mut rest) = (Vec::new(), lengths);
+    while let Some(length) = rest.first() {
+        let alike = rest.iter().take_while(|other| *other == length);
+        let count = alike.count().min(u16::MAX.into());
+        words.push(match count {
+            1 => length.to_string(),
+            _ => format!("{}*{}", length, count),
+        });
+        rest = &rest[count..];
+    }
+    words
 }
 
 /// What a curve's sum is of.

@@ -46,6 +46,8 @@ fn a_failed_function_s_output_counts_for_nothing() {
                 lent.values.len(),
                 lent.blocks.as_ptr(),
                 lent.blocks.len(),
+                lent.lengths.as_ptr(),
+                lent.lengths.len(),
                 lent.sums.as_ptr(),
                 lent.sums.len(),
                 0,

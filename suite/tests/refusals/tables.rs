@@ -1,5 +1,5 @@
 //! Refusal 1: every way to break the table of what is allowed, and its limits, which break nothing.
-use crate::calls::{refusal, NUMBERS, WHOLE_BOARD};
+use crate::calls::{refusal, Entry, NUMBERS, WHOLE_BOARD};
 use cruachvel::{Curve, Groups, Kind, Variable};
 use suite::boards::{board_a, fill_up};
 use suite::faults::faults;
@@ -19,9 +19,11 @@ fn refusal_1_for_every_way_to_break_the_table() {
         accepted_by_all(&lent, &format!("just before: {}", fault.name));
         fault.spoil(&mut lent);
         for entry in WHOLE_BOARD {
+            let taken = fault.set_by_fresh && matches!(entry, Entry::FreshBoard);
+            let expected = if taken { None } else { Some(1) };
             assert_eq!(
                 refusal(&lent, entry),
-                Some(1),
+                expected,
                 "{}: {:?}",
                 fault.name,
                 entry
@@ -37,6 +39,21 @@ fn refusal_1_for_every_way_to_break_the_table() {
                 entry
             );
         }
+    }
+}
+
+// One that is refused for its lengths alone is brought to rights by a fresh board, and is then as if it had had the right ones.
+#[test]
+fn a_fresh_board_sets_lengths_that_are_out_of_range() {
+    let faults = faults().into_iter().filter(|fault| fault.set_by_fresh);
+    for fault in faults {
+        let mut lent = board_a();
+        fault.prepare(&mut lent);
+        let right = lent.clone().fresh();
+        fault.spoil(&mut lent);
+        assert_ne!(lent, right, "{}", fault.name);
+        assert_eq!(lent.fresh_board(), Ok(()), "{}", fault.name);
+        assert_eq!(lent, right, "{}", fault.name);
     }
 }
 
@@ -58,6 +75,8 @@ fn the_limits_themselves_are_usable() {
         lent.curves = Curve::numbers(curves).to_vec();
         lent.refit();
         accepted_by_all(&lent, &format!("{:?}", curves));
+        lent.lengths.fill(1);
+        accepted_by_all(&lent, &format!("{:?}, all blocks of 1 byte", curves));
     }
     lent.functions.truncate(2);
     lent.variables

@@ -10,23 +10,35 @@ fn small_bytes(random: &mut Random, most: usize, limit: usize) -> Vec<u8> {
     (0..length).map(|_| random.below(limit) as u8).collect()
 }
 
+// About as many as board A has blocks, about as long as these can be.
+fn small_lengths(random: &mut Random) -> Vec<u16> {
+    let count = random.choose(&[2, 2, 2, 0, 1, 3]);
+    let length = |_| random.choose(&[0, 1, 2, 3, 4, 5, 0xFFFF]);
+    (0..count).map(length).collect()
+}
+
 #[test]
 fn absurd_tables_end_in_an_outcome() {
     let mut random = Random::new(71);
     for _ in 0..20_000 {
         let mut bench = Bench::a();
         for _ in 0..random.below(3) {
-            match random.below(7) {
+            match random.below(8) {
                 0 => bench.variables = vec![variable(1, random.byte(), 0); 66],
                 1 => bench.curves = vec![1, random.below(9) as u32, random.number() as u32],
                 2 => bench.functions = small_bytes(&mut random, 40, 20),
                 3 => bench.groups.count = random.number() >> random.below(64),
                 4 => bench.sums = small_bytes(&mut random, 33, 256),
                 5 => bench.values = small_bytes(&mut random, 9, 256),
+                6 => bench.lengths = small_lengths(&mut random),
                 _ => bench.curves = vec![u32::MAX; random.below(30)],
             }
         }
-        let usable = !bench.unusable();
+        let usable = !bench.unusable_as_lent();
+        let mut fresh = bench.clone();
+        let taken = fresh.fresh() == Ok(());
+        assert_eq!(taken, !fresh.unusable_as_lent());
+        assert!(taken || !usable);
         let number = random.below(70);
         let _ = read_signed(&bench.variables, number, &bench.values);
         let _ = write_unsigned(&bench.variables, number, random.number(), &mut bench.values);
@@ -65,8 +77,12 @@ fn any_packet_keeps_the_board_usable_and_an_error_changes_no_byte() {
             }
         }
         if command != 0x42 {
-            assert_eq!(bench.sums, before.2, "42 alone renews a sum");
+            assert_eq!(bench.sums, before.sums, "42 alone renews a sum");
         }
+        if command != 0x41 {
+            assert_eq!(bench.lengths, before.lengths, "41 alone sets a length");
+        }
+        assert!(!bench.unusable());
         assert_eq!(bench.values[1..3], [2, 3], "read-only");
         assert_eq!(bench.blocks[6..], [7, 8], "read-only");
     }

@@ -25,12 +25,20 @@ pub struct Bench {
     pub busy: u64,
     pub values: Vec<u8>,
     pub blocks: Vec<u8>,
+    pub lengths: Vec<u16>,
     pub sums: Vec<u8>,
     pub reply: Vec<u8>,
 }
 
 /// What must stay as it is when an error or a refusal ends a call.
-pub type State = (Vec<u8>, Vec<u8>, Vec<u8>, Groups);
+#[derive(Clone, Debug, PartialEq, Eq)]
+pub struct State {
+    pub values: Vec<u8>,
+    pub blocks: Vec<u8>,
+    pub lengths: Vec<u16>,
+    pub sums: Vec<u8>,
+    pub groups: Groups,
+}
 
 impl Bench {
     /// Board A, fresh.
@@ -50,13 +58,14 @@ impl Bench {
             busy: 0,
             values: vec![0xFF, 0xFF, 0xFF, 0xFD, 0x5A, 0x34, 0x12],
             blocks: vec![0; 8],
+            lengths: vec![4, 4],
             sums: hex("7DEA362B3FAC8E00956A4952A3D4F474"),
             reply: vec![UNTOUCHED; REPLY],
         }
     }
 
-    /// A board with these records, and stores and sums of the right lengths, filled 1, 2, 3
-    /// and on: so its sums are stale.
+    /// A board with these records, full blocks, and stores and sums of the right lengths,
+    /// filled 1, 2, 3 and on: so its sums are stale.
     pub fn with(variables: &[Variable], curves: &[u32], functions: &[u8]) -> Bench {
         let values: usize = variables.iter().map(|v| usize::from(v.size)).sum();
         let blocks: u32 = curves.chunks_exact(3).map(|c| c[1] * c[2]).sum();
@@ -67,14 +76,20 @@ impl Bench {
             functions: functions.to_vec(),
             values: filled(values),
             blocks: filled(blocks as usize),
+            lengths: full(curves),
             sums: filled(16 * (curves.len() / 3)),
             ..Bench::a()
         }
     }
 
     pub fn state(&self) -> State {
-        let (values, blocks) = (self.values.clone(), self.blocks.clone());
-        (values, blocks, self.sums.clone(), self.groups)
+        State {
+            values: self.values.clone(),
+            blocks: self.blocks.clone(),
+            lengths: self.lengths.clone(),
+            sums: self.sums.clone(),
+            groups: self.groups,
+        }
     }
 
     /// Calls with a fresh reply buffer; gives the outcome and the reply.
@@ -88,6 +103,7 @@ impl Bench {
             self.busy,
             &mut self.values,
             &mut self.blocks,
+            &mut self.lengths,
             &mut self.sums,
             request,
             &mut self.reply,
@@ -149,6 +165,7 @@ impl Bench {
             &self.groups,
             &self.values,
             &self.blocks,
+            &self.lengths,
             &self.sums,
             function,
             due,
@@ -167,38 +184,53 @@ impl Bench {
             &self.groups,
             &mut self.values,
             &self.blocks,
+            &self.lengths,
             &self.sums,
             number,
             bytes,
         )
     }
 
-    /// Works out every sum; a refusal changes none.
+    /// Makes every block full and works out every sum; a refusal changes no byte.
     pub fn fresh(&mut self) -> Result<(), u8> {
+        let before = self.state();
         let table = table(&self.variables, &self.curves, &self.functions);
-        let before = self.sums.clone();
         let result = second::fresh_board(
             &table,
             &self.groups,
             &self.values,
             &self.blocks,
+            &mut self.lengths,
             &mut self.sums,
         );
-        assert!(result.is_ok() || self.sums == before);
+        assert!(result.is_ok() || self.state() == before);
         result
     }
 
     /// Whether all entries that look at the whole board find it unusable.
     pub fn unusable(&mut self) -> bool {
+        let unusable = self.unusable_as_lent();
+        assert_eq!(unusable, self.clone().fresh() == Err(1));
+        unusable
+    }
+
+    /// Whether all but a fresh board find it unusable: that one sets the lengths, so it takes
+    /// whatever stands there.
+    pub fn unusable_as_lent(&mut self) -> bool {
         let before = self.state();
         let packet = self.outcome(&wire(5, 0x00, &[])).0 == Outcome::Refused(1);
         let result = self.result(99, true, Ran::Failed(0), &[]) == Outcome::Refused(1);
         let store = self.store(99, &[]) == Err(1);
-        assert_eq!(self.state(), before, "a refusal changes no byte");
-        let fresh = self.clone().fresh() == Err(1);
-        assert!(packet == result && result == store && store == fresh);
+        assert!(self.state() == before, "a refusal changes no byte");
+        assert!(packet == result && result == store);
         packet
     }
+}
+
+/// The lengths of these curves' blocks, all full.
+pub fn full(curves: &[u32]) -> Vec<u16> {
+    let of_curve = |curve: &[u32]| vec![curve[1] as u16; curve[2] as usize];
+    curves.chunks_exact(3).flat_map(of_curve).collect()
 }
 
 fn table<'a>(variables: &'a [Variable], curves: &'a [u32], functions: &'a [u8]) -> Table<'a> {

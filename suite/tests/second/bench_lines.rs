@@ -40,7 +40,7 @@ fn bench_run_runquiet_refused_and_cut() {
 }
 
 #[test]
-fn bench_starts_as_a_fresh_board() {
+fn bench_starts_as_a_fresh_board_and_keeps_lengths_and_sums() {
     let read = record(&wire(5, 0x0A, &[0]));
     let input = [
         read.clone(),
@@ -48,7 +48,8 @@ fn bench_starts_as_a_fresh_board() {
         read.clone(),
         record(&wire(0xF8, 0x42, &[0])),
         read.clone(),
-        record(&wire(5, 0x41, &[0, 0, 1, 0])),
+        record(&wire(5, 0x40, &[0, 0, 1])),
+        record(&wire(5, 0x41, &[0, 0, 1, 0, 0, 0, 0])),
         record(&wire(5, 0x42, &[0])),
         read,
         record(&wire(5, 0x42, &[1])),
@@ -57,10 +58,11 @@ fn bench_starts_as_a_fresh_board() {
                  2 answer 00E0000020\n\
                  3 answer 000B00107DEA362B3FAC8E00956A4952A3D4F4742B\n\
                  4 silent\n\
-                 5 answer 000B0010B7CE8DB518FBD9F41AB773AF4C74915C9E\n\
-                 6 answer 00E0000020\n\
+                 5 answer 000B00102BB91CFBE8E9959B49CAB8AC7EDBF05DCC\n\
+                 6 answer 0041000400000107B3\n\
                  7 answer 00E0000020\n\
-                 8 answer 000B00107DEA362B3FAC8E00956A4952A3D4F4742B\n\
-                 9 answer 00E300001D\n";
+                 8 answer 00E0000020\n\
+                 9 answer 000B00107DEA362B3FAC8E00956A4952A3D4F4742B\n\
+                 10 answer 00E300001D\n";
     assert_eq!(bench_prints(&input.concat()), lines);
 }

@@ -1,54 +1,13 @@
 //! The curves' sums, by 2026-02: 0A reads them, 42 renews them, a fresh board works them out.
-use crate::bench::{hex, variable, wire, Bench};
-use core::ops::Range;
+//! What they are of where blocks are not full is for page `lengths`.
+use crate::bench::{hex, wire, Bench};
+use crate::curves::{board, boards, count, held, sum_place, CURVES};
 use suite::random::Random;
 use suite::second::{md5, Groups, Outcome, Ran};
 use suite::whatif::bytes::summed;
 
 const READ: u8 = 0x0A;
 const RENEW: u8 = 0x42;
-
-/// Curves of different block sizes and counts, read-only ones first, last and between.
-const CURVES: [u32; 15] = [0, 4, 2, 1, 1, 55, 0, 70, 3, 1, 257, 2, 0, 8, 7];
-
-fn board(curves: &[u32]) -> Bench {
-    Bench::with(&[variable(1, 1, 0)], curves, &[0, 1])
-}
-
-// Boards with no curve, with one and with eight, and with the largest that are allowed.
-fn boards() -> Vec<Bench> {
-    let eight = [[1, 3, 2], [0, 64, 1]].concat().repeat(4);
-    let boards = [
-        &[][..],
-        &[1, 1, 1],
-        &[0, 1, 65_536],
-        &[1, 4096, 16],
-        &[1, 4096, 15, 0, 1, 4095, 1, 1, 1],
-        &CURVES,
-        &eight,
-    ];
-    boards.iter().map(|curves| board(curves)).collect()
-}
-
-fn count(bench: &Bench) -> u8 {
-    (bench.curves.len() / 3) as u8
-}
-
-fn place(curve: u8) -> Range<usize> {
-    let start = 16 * usize::from(curve);
-    start..start + 16
-}
-
-// The curve's blocks in order, as the line reads them.
-fn held(bench: &mut Bench, curve: u8) -> Vec<u8> {
-    let blocks = bench.curves[3 * usize::from(curve) + 2];
-    let mut held = Vec::new();
-    for block in 0..blocks {
-        let [high, low] = (block as u16).to_be_bytes();
-        held.extend_from_slice(&bench.ask(0x40, &[curve, high, low]).1[3..]);
-    }
-    held
-}
 
 // 0A answers these bytes and changes none.
 fn reads(bench: &mut Bench, curve: u8, sum: &[u8]) {
@@ -61,7 +20,7 @@ fn reads(bench: &mut Bench, curve: u8, sum: &[u8]) {
 fn renews(bench: &mut Bench, curve: u8, request: impl FnOnce(&mut Bench)) {
     let sum = md5(&held(bench, curve));
     let mut after = bench.state();
-    after.2[place(curve)].copy_from_slice(&sum);
+    after.sums[sum_place(curve)].copy_from_slice(&sum);
     request(bench);
     assert!(bench.state() == after, "only the sum of curve {}", curve);
     reads(bench, curve, &sum);
@@ -98,7 +57,7 @@ fn zero_a_answers_the_16_bytes_as_they_stand_in_the_state() {
         for sums in [vec![0; length], vec![0xFF; length], drawn] {
             bench.sums = sums.clone();
             for curve in 0..count(&bench) {
-                reads(&mut bench, curve, &sums[place(curve)]);
+                reads(&mut bench, curve, &sums[sum_place(curve)]);
             }
         }
     }
@@ -128,7 +87,7 @@ fn the_sum_is_over_the_whole_curve_and_over_no_byte_of_its_neighbours() {
     let sums = hex("6AC1E56BC78F031059BE7BE854522C4C 8D9A679163223F3F0ED1C100C51E9532");
     for curve in 0..2 {
         assert_eq!(bench.ask(RENEW, &[curve]).0, 0xE0);
-        reads(&mut bench, curve, &sums[place(curve)]);
+        reads(&mut bench, curve, &sums[sum_place(curve)]);
     }
     let mut largest = board(&[0, 1, 65_536]);
     largest.blocks.fill(0);
@@ -174,7 +133,7 @@ fn a_write_that_takes_back_another_makes_the_stale_sum_right_again() {
     let mut bench = Bench::a();
     let fresh = bench.sums.clone();
     for byte in [7, 0] {
-        assert_eq!(bench.ask(0x41, &[0, 0, 1, byte]).0, 0xE0);
+        assert_eq!(bench.ask(0x41, &[0, 0, 1, byte, 0, 0, 0]).0, 0xE0);
         reads(&mut bench, 0, &fresh);
     }
     renewed(&mut bench, 0);
@@ -292,7 +251,7 @@ fn busy_marks_stop_neither() {
     for busy in [1, 1 << 63, u64::MAX] {
         bench.busy = busy;
         for curve in 0..count(&bench) {
-            bench.sums[place(curve)].fill(9);
+            bench.sums[sum_place(curve)].fill(9);
             reads(&mut bench, curve, &[9; 16]);
             renewed(&mut bench, curve);
         }
@@ -417,7 +376,7 @@ fn writes_and_renewals_at_random_as_a_reckoning_beside_them_says() {
     for _ in 0..5_000 {
         let curve = random.below(5) as u8;
         match random.below(3) {
-            0 => reads(&mut bench, curve, &sums[place(curve)]),
+            0 => reads(&mut bench, curve, &sums[sum_place(curve)]),
             1 => {
                 let write = [curve, 0, random.below(9) as u8, random.byte()];
                 bench.outcome(&wire(5, 0x41, &write));
@@ -425,7 +384,7 @@ fn writes_and_renewals_at_random_as_a_reckoning_beside_them_says() {
             _ => {
                 renewed(&mut bench, curve);
                 let sum = md5(&held(&mut bench, curve));
-                sums[place(curve)].copy_from_slice(&sum);
+                sums[sum_place(curve)].copy_from_slice(&sum);
             }
         }
         assert_eq!(bench.sums, sums);

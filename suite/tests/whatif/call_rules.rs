@@ -82,7 +82,7 @@ fn check(call: &Call, setting: &mut Setting, met: &mut BTreeSet<(&'static str, u
     };
     let first = order(call).iter().copied().find(applies);
     let told = match rule_of(call, &came, &before) {
-        Rule::Refusal(refusal, _) => Some(refusal.number()),
+        Rule::Refusal(refusal, ..) => Some(refusal.number()),
         Rule::Sentence(_) | Rule::Amended(_) => None,
         other => panic!("{:?} on {:?} is under {:?}", call, before, other),
     };
@@ -140,11 +140,13 @@ fn a_broken_board_is_told_to_every_call_that_looks_at_it() {
         let mut met = BTreeSet::new();
         for sort in 0..10 {
             let call = drawn(&mut random, &setting, sort);
-            check(&call, &mut setting, &mut met);
+            // Each on the broken board, which a fresh one may mend.
+            check(&call, &mut setting.clone(), &mut met);
         }
         let refused = |name: &str| met.contains(&(name, 1));
-        let whole = ["store", "result", "fresh"];
+        let whole = ["store", "result"];
         assert!(whole.into_iter().all(refused), "{}", fault.name);
+        assert_eq!(refused("fresh"), !fault.set_by_fresh, "{}", fault.name);
         assert_eq!(
             (refused("read"), refused("write")),
             (fault.in_variables, fault.in_variables),

@@ -83,16 +83,18 @@ changed   nothing
 }
 
 #[test]
-fn a_fresh_board_is_explained_with_the_sums_that_it_works_out() {
-    let board = "address 5\nvariable writable 1 plain\ncurve writable 4 2\ncurve read-only 1 3\nsum 1 00*16";
+fn a_fresh_board_is_explained_with_the_blocks_that_it_fills_and_the_sums_that_it_works_out() {
+    let board = "address 5\nvariable writable 1 plain\ncurve writable 4 4\ncurve read-only 1 3\nlengths 2 2 4 0 1*3\nsum 0 00*16";
     let mut setting = board_file::parse(board).expect("a board");
     let expected = "\
 fresh
-  curve         0               curve 0: writable, 2 blocks of 4 bytes
+  curve         0               curve 0: writable, 4 blocks of 4 bytes, 3 not full
   curve         1               curve 1: read-only, 3 blocks of 1 byte
-outcome   the sums are worked out
-rule      no refusal; by 2026-02 \"Each curve's sum is part of the state: a fresh board works it out, a block write leaves it stale, 42 renews it, for read-only curves too.\"
-changed   sum of curve 1: 00 00 00 00 00 00 00 00 00 00 00 00 00 00 00 00 -> 69 3E 9A F8 4D 3D FC C7 1E 64 0E 00 5B DC 5E 2E
+outcome   all blocks are full, and the sums are worked out
+rule      no refusal; by 2026-02 \"Each curve's sum is part of the state: a fresh board works it out, a block write leaves it stale, 42 renews it, for read-only curves too.\"; by 2026-03 \"Each block gets a length of its own, 1 to the block size, full on a fresh board.\"
+changed   curve 0, blocks 0 to 1, length: 2 -> 4
+          curve 0, block 3, length: 0 -> 4
+          sum of curve 0: 00 00 00 00 00 00 00 00 00 00 00 00 00 00 00 00 -> 4A E7 13 36 E4 4B F9 BF 79 D2 75 2E 23 48 18 A5
 ";
     assert_eq!(explained(&mut setting, "fresh"), expected);
     let again = explained(&mut setting, "fresh");
@@ -101,7 +103,7 @@ changed   sum of curve 1: 00 00 00 00 00 00 00 00 00 00 00 00 00 00 00 00 -> 69 
     let refused = explained(&mut setting, "fresh");
     let expected = "\
 outcome   refused with 1, board unusable
-rule      refusal 1, board unusable: \"a record, store length or group breaks the table above\"
+rule      refusal 1, board unusable, by 2026-03 \"A length out of range, lengths not one per block or sums not one per curve make the board unusable.\"
           the sums' store has 31 bytes; the records add up to 32
 changed   nothing
 ";

@@ -92,6 +92,21 @@ wrong     nothing
 }
 
 #[test]
+fn a_block_is_decoded_with_what_a_full_one_has() {
+    let data = |reply: &str| {
+        let text = decoded(&board_a_idle(), reply);
+        let data = text.lines().find(|line| line.starts_with("  data"));
+        data.unwrap_or_default().to_string()
+    };
+    let full = "  data          01 02 03 04     4 bytes";
+    assert_eq!(data("00 41 00 07 00 00 01 01 02 03 04 AD"), full);
+    let short = "  data          01 02 03        3 of 4 bytes";
+    assert_eq!(data("00 41 00 06 00 00 01 01 02 03 B2"), short);
+    let of_no_curve = "  data          01 02 03        3 bytes";
+    assert_eq!(data("00 41 00 06 01 00 01 01 02 03 B1"), of_no_curve);
+}
+
+#[test]
 fn a_wire_error_is_told_with_its_steps() {
     let expected = "
   command       E2              operation not supported

@@ -77,6 +77,15 @@ fn a_renewed_sum_is_told_too() {
 }
 
 #[test]
+fn a_length_that_is_set_is_told_too() {
+    let text = told("05 41 00 06 00 00 01 00 00 00 B3");
+    let block = r#"{"name":"block","bytes":"00 01","meaning":"block 1: 4 bytes"}"#;
+    assert!(text.contains(block), "{}", text);
+    let end = "\"changed\":[\"curve 0, block 1, length: 4 -> 3\"]}\n";
+    assert!(text.ends_with(end), "{}", text);
+}
+
+#[test]
 fn no_byte_is_left_out_in_json() {
     let text = told("05 7F 00 1E 00*30 5E");
     let bytes = format!("\"bytes\":\"05 7F 00 1E{} 5E\"", " 00".repeat(30));

@@ -73,9 +73,89 @@ fn changed_values_are_shown_as_numbers() {
     let text = explained(&mut board_a_idle(), "05 20 00 03 02 FF FF D8");
     let expected = "changed   variable 2: 34 12 (4660) -> FF FF (65535)\n";
     assert!(text.ends_with(expected), "{}", text);
-    let text = explained(&mut board_a_idle(), "05 41 00 05 00 00 01 00 BB F9");
+    let text = explained(&mut board_a_idle(), "05 41 00 07 00 00 01 00 BB 00 00 F7");
     let expected = "changed   curve 0, block 1, from byte 1: 00 -> BB\n";
     assert!(text.ends_with(expected), "{}", text);
+}
+
+#[test]
+fn a_short_write_is_told_with_the_length_that_it_sets_and_the_read_goes_by_it() {
+    let mut setting = board_a_idle();
+    let written = explained(&mut setting, "05 41 00 06 00 00 01 00 BB 00 F8");
+    let parts = "
+  curve         00              curve 0: writable, 2 blocks of 4 bytes
+  block         00 01           block 1: 4 bytes
+  data          00 BB 00        3 bytes
+";
+    assert!(written.contains(parts), "{}", written);
+    let changed = "
+changed   curve 0, block 1, from byte 1: 00 -> BB
+          curve 0, block 1, length: 4 -> 3
+";
+    assert!(written.ends_with(changed), "{}", written);
+    let read = explained(&mut setting, "05 40 00 03 00 00 01 B7");
+    let expected = "
+  curve         00              curve 0: writable, 2 blocks of 4 bytes, 1 not full
+  block         00 01           block 1: 3 of 4 bytes
+  checksum      B7              the sum is 0
+outcome   reply 41, curve block
+rule      no refusal and no wire error; the command's row: | 40 | curve, block in two bytes | 41: curve, block, the block's bytes |, by 2026-03 \"Each block gets a length of its own, 1 to the block size, full on a fresh board. A write sets it, a read returns that many bytes, and the checksum covers only those, in block order.\"
+reply     00 41 00 06 00 00 01 00 BB 00 FD
+  destination   00              the master
+  command       41              curve block
+  SIZE          00 06           6 bytes of payload
+  curve         00              curve 0: writable, 2 blocks of 4 bytes, 1 not full
+  block         00 01           block 1
+  data          00 BB 00        3 of 4 bytes
+  checksum      FD              the sum is 0
+changed   nothing
+";
+    assert!(read.ends_with(expected), "{}", read);
+    // The same bytes are there already; only the length is another.
+    let longer = explained(&mut setting, "05 41 00 07 00 00 01 00 BB 00 00 F7");
+    let changed = "\nchanged   curve 0, block 1, length: 3 -> 4\n";
+    assert!(longer.ends_with(changed), "{}", longer);
+}
+
+#[test]
+fn lengths_that_break_the_board_are_told_with_the_block_or_the_count() {
+    let reasons = [
+        (
+            vec![4, 0],
+            "block 1 of curve 0 has length 0; 1 to 4 are allowed",
+        ),
+        (
+            vec![5, 0],
+            "block 0 of curve 0 has length 5; 1 to 4 are allowed",
+        ),
+        (
+            vec![4, 65535],
+            "block 1 of curve 0 has length 65,535; 1 to 4 are allowed",
+        ),
+        (vec![4], "1 length for 2 blocks; each block has one"),
+        (vec![4, 4, 4], "3 lengths for 2 blocks; each block has one"),
+    ];
+    for (lengths, reason) in reasons {
+        let mut setting = board_a_idle();
+        setting.lent.lengths = lengths;
+        let expected = format!("
+outcome   refused with 1, board unusable
+rule      refusal 1, board unusable, by 2026-03 \"A length out of range, lengths not one per block or sums not one per curve make the board unusable.\"
+          {}
+changed   nothing
+", reason);
+        let text = explained(&mut setting, "05 00 00 00 FB");
+        assert!(text.ends_with(&expected), "{}", text);
+        let store = explained(&mut setting, "store 1 66");
+        assert!(store.ends_with(&expected), "{}", store);
+    }
+    // What 01 itself names is told in its words, also where a length is wrong too.
+    let mut setting = board_a_idle();
+    setting.lent.lengths = vec![0];
+    setting.lent.functions[0] = 16;
+    let text = explained(&mut setting, "05 00 00 00 FB");
+    let rule = "unusable: \"a record, store length or group breaks the table above\"\n";
+    assert!(text.contains(rule), "{}", text);
 }
 
 #[test]
@@ -110,7 +190,7 @@ changed   nothing
     let end = "\
 changed   sum of curve 0: 7D EA 36 2B 3F AC 8E 00 95 6A 49 52 A3 D4 F4 74 -> ";
     assert!(renewed.contains(end), "{}", renewed);
-    let rule = "wire error; by 2026-02 \"42 (payload: curve; answer E0)\"\n";
+    let rule = "wire error; by 2026-02 \"42 (payload: curve; answer E0)\", by 2026-03 \"Each ";
     assert!(renewed.contains(rule), "{}", renewed);
     assert!(!explained(&mut setting, "05 0A 00 01 00 F0").contains("stale"));
 }

@@ -43,7 +43,7 @@ impl Met {
             .find(|step| step.reason(request, before).is_some());
         let told = || format!("{:02X?} on {:?} is under {:?}", request, before, rule);
         match rule {
-            Rule::Refusal(refusal, _) => {
+            Rule::Refusal(refusal, ..) => {
                 assert_eq!(Some(*refusal), refused, "{}", told());
                 self.refusals.insert(refusal.number());
             }
