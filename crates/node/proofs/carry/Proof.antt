@@ -5,4 +5,4 @@ use Rattle.node.proofs.carry.Statement.{statement}
 use Rattle.node.proofs.carry.Tie as tie
 
 pub carry-spec : {M : Type 1} → statement M
-carry-spec = tie.close (tie.spec (λ c κs. search needs) (λ c κs. search needs) (λ c. search needs) (λ c. search needs) (λ c. search needs) (λ c. search needs) (λ c. (search needs, search (packet-fits, needs))))
+carry-spec = tie.close (tie.spec (λ c κs. search needs) (λ c κs. search needs) (λ c. search needs) (λ c. search needs) (λ c. search needs) (λ c. search needs) (λ c. search needs) (λ c. (search needs, search (packet-fits, needs))))

@@ -5,4 +5,4 @@ use Rattle.node.proofs.packet.Statement.{statement}
 use Rattle.node.proofs.packet.Tie as tie
 
 pub packet-spec : {M : Type 1} → statement M
-packet-spec = tie.close (tie.spec (λ c κs. search needs) (λ c κs. search needs) (λ c. search needs) (λ c. search needs) (λ c. search needs) (λ c. search needs) (λ c. search (packet-left, needs)))
+packet-spec = tie.close (tie.spec (λ c κs. search needs) (λ c κs. search needs) (λ c. search needs) (λ c. search needs) (λ c. search needs) (λ c. search needs) (λ c. search needs) (λ c. search (packet-left, needs)))

@@ -12,5 +12,9 @@ receive-spec =
     (λ c κs. search needs) (λ c. search (carried-unusable, needs))
     (λ c κs. search needs) (λ c. search needs) (λ c. search needs)
     (λ c κs. search needs) (λ c. search (carried-unopened, needs))
-    (λ c κs. (search (board-ready, needs), search (message-least, message-room, needs)))
-    (λ c. search needs) (λ c. search needs) (λ c. search needs) (λ c. search needs) (λ c. search (carried-served, needs)))
+    (λ c κs. (search (board-ready, needs), (search (message-least, needs), search (message-room, needs))))
+    (λ c. search needs) (λ c. search needs) (λ c. search needs) (λ c. search needs) (λ c. search needs)
+    (λ c. let lent = c .before .before .before .before .before .before .before .before .before .before in
+    let opened = lent .before .before .before .before .before .before .before .before .before in
+    let tested = opened .before .before .before .before .before .before .before .before .before .before .before .before .before .pre in
+    carried-served _ _ _ _ _ _ _ _ _ _ _ _ _ _ _ _ tested (opened .before .if1 .left) _ (opened .«open» .ensures) _ _ _ (search needs) (lent .lend .ensures)))
