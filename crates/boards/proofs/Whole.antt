@@ -1,6 +1,6 @@
 -- The whole board's rules as the code meets them. Assumes nothing.
 use mathlib.Core.Path.{_≡_, refl, sym, ap, _∙_}
-use mathlib.Core.Bool.{Bool, true, false, not, _&&_, false≢true}
+use mathlib.Core.Bool.{Bool, true, false, cond, not, _&&_, false≢true}
 use mathlib.Core.List.{List}
 use Prim.Native.Nat.{ℕ, _+_, _-_, _*_, _/_, _%_}
 use native.Mathlib.Decide.{ℕ-discrete}
@@ -9,21 +9,22 @@ use lib.ListN.{length}
 use lib.Dec.{eqb}
 use borrow.Author.Tests.{not-true, not-false, eq-eqb, ne-eqb, eqb-true}
 use Rattle.bsmp.specs.Base.{sum}
-use Rattle.bsmp.specs.Board.{Table, layout, sizesOf, blockSizes, fitting, sumSizes, usableVariables, usableCurves, usableFunctions, usableGroups, usable}
+use Rattle.bsmp.specs.Board.{Table, layout, sizesOf, blockSizes, fullLengths, full, fitting, sumSizes, usableVariables, usableCurves, usableFunctions, usableGroups, usable}
 use Rattle.bsmp.specs.Store.{Lent, held}
 use Rattle.bsmp.proofs.Bools.{and-true, not-so, bool-eq}
 use Rattle.bsmp.proofs.Store.{curve-bytes, sum-bytes}
-use Rattle.bsmp.proofs.Fresh.{curves-fit}
+use Rattle.bsmp.proofs.Fresh.{full-sizes, fit-count, curves-fit}
 use Rattle.rules.proofs.Totals.{total-usable, total-bytes, curves-usable, curves-told}
 use Rattle.records.specs.declared.Records.{Records}
 use Rattle.records.specs.declared.Groups.{Groups}
 use Rattle.rules.specs.declared.Total.{Total}
 use Rattle.rules.specs.declared.CurveTotal.{CurveTotal}
 use Rattle.records.specs.Lending.{recordsOf, curvesOf, functionsOf, groupsOf, tableOf, lent}
-use Rattle.rules.specs.Totals.{variablesTotal, curveTotalOf, curvesTotal}
+use Rattle.rules.specs.Totals.{variablesTotal, curvesTotal}
 use Rattle.records.proofs.Lending.{record-count, curve-count}
 use Rattle.rules.proofs.Thirds.{cut-off}
 use Rattle.records.proofs.Sound.{Sound, usable-sound, sound-usable}
+use Rattle.records.proofs.Blocks.{block-count}
 
 -- the sums' length goes by the number of curves, which have three numbers each: d bytes and c numbers are of k curves
 curves-of : (d c : ℕ) (P : Type 0) → 3 * d ≡ 16 * c → ((k : ℕ) → d ≡ 16 * k → c ≡ 3 * k → P) → P
@@ -72,10 +73,10 @@ module _ (r : Records) (cs fs vs bs ns ds : List ℕ) (g : Groups) where
   unless : (b b′ : Bool) → b ≡ b′ → not b ≡ true → b′ ≡ true → ⊥
   unless b b′ e h q = false≢true (sym (not-true b h) ∙ e ∙ q)
 
-  pub board-variables : (c : Total) → c ≡ variablesTotal (recordsOf r) → not (c .usable) ≡ true → false ≡ whole
+  board-variables : (c : Total) → c ≡ variablesTotal (recordsOf r) → not (c .usable) ≡ true → false ≡ whole
   board-variables c e h = refused (λ s. unless _ _ (total-usable _ _ c e) h (s .variables))
 
-  pub board-values : (c : Total) → c ≡ variablesTotal (recordsOf r) → not (c .usable) ≡ false → (c .bytes ≡ length vs → ⊥) → false ≡ whole
+  board-values : (c : Total) → c ≡ variablesTotal (recordsOf r) → not (c .usable) ≡ false → (c .bytes ≡ length vs → ⊥) → false ≡ whole
   board-values c e h n = refused (λ s. n (total-bytes _ _ c e (not-false _ h) ∙ sym (s .values)))
 
   pub board-curves : (d : CurveTotal) → d ≡ curvesTotal (curvesOf cs) → not (d .usable) ≡ true → false ≡ whole
@@ -93,7 +94,7 @@ module _ (r : Records) (cs fs vs bs ns ds : List ℕ) (g : Groups) where
   pub board-sums : (b : Bool) → b ≡ eqb (3 * length ds) (16 * length cs) → not b ≡ true → false ≡ whole
   board-sums b e h = refused (λ s. unless b _ e h (sums-enough cs ds (s .curves) (s .sums)))
 
-  pub board-functions : (b : Bool) → b ≡ usableFunctions (functionsOf fs) → not b ≡ true → false ≡ whole
+  board-functions : (b : Bool) → b ≡ usableFunctions (functionsOf fs) → not b ≡ true → false ≡ whole
   board-functions b e h = refused (λ s. unless _ _ e h (s .functions))
 
   -- the groups' check goes by the number of records
@@ -123,17 +124,16 @@ module _ (r : Records) (cs fs vs bs ns ds : List ℕ) (g : Groups) where
       groups = sym (counted b eb) ∙ hb;
     }
 
-    -- of a board with its blocks full all comes to what its curves add up to
-    pub board-walked : (c : Total) → c ≡ variablesTotal (recordsOf r) → not (c .usable) ≡ false → c .bytes ≡ length vs → not a ≡ false → not b ≡ false
-        → ns ≡ blockSizes (curvesOf cs) → d ≡ curveTotalOf whole (curvesOf cs)
-    board-walked c ec hc vc ha hb f =
-        let u = not-false _ hc in
-        let w : usableCurves (curvesOf cs) ≡ true = sym (curves-usable _ _ d ed) ∙ not-false _ hd in
-        let l : fitting (blockSizes (curvesOf cs)) ns ≡ true = rw f (curves-fit (curvesOf cs) w) in
-        let o : whole ≡ true = sound-usable table lending (sound l (sym (total-usable _ _ c ec) ∙ u) (sym vc ∙ total-bytes _ _ c ec u) (not-false a ha) (not-false b hb)) in
-        ed ∙ ap (λ v. curveTotalOf v (curvesOf cs)) (w ∙ sym o)
+    -- the variables as one walk tests them
+    module _ (c : Total) (ec : c ≡ variablesTotal (recordsOf r)) (hc : not (c .usable) ≡ false) (vc : c .bytes ≡ length vs) (ha : not a ≡ false) (hb : not b ≡ false) where
+      walked : fitting (blockSizes (curvesOf cs)) ns ≡ true → Sound table lending
+      walked hl = let u = not-false _ hc in sound hl (sym (total-usable _ _ c ec) ∙ u) (sym vc ∙ total-bytes _ _ c ec u) (not-false a ha) (not-false b hb)
 
-    -- and of any with lengths that were tested to the last of the tests
+      -- so all comes to the lengths: that each fits ..
+      pub board-fitted : (k : Bool) → k ≡ fitting (blockSizes (curvesOf cs)) ns → k ≡ whole
+      board-fitted k ek = last k (λ h. walked (sym ek ∙ h)) (λ h s. false≢true (sym h ∙ ek ∙ s .lengths))
+
+    -- for packets, to the last of the tests
     pub board-quick : (c k : Bool) → c ≡ (usableVariables (recordsOf r) && eqb (sum (sizesOf (recordsOf r))) (length vs)) → not c ≡ false
         → k ≡ fitting (blockSizes (curvesOf cs)) ns → not k ≡ false → not b ≡ false → a ≡ whole
     board-quick c k ec hc ek hk hb =
@@ -142,3 +142,61 @@ module _ (r : Records) (cs fs vs bs ns ds : List ℕ) (g : Groups) where
 
   pub board-own : (c : Bool) → c ≡ (usableVariables (recordsOf r) && eqb (sum (sizesOf (recordsOf r))) (length vs)) → not c ≡ true → false ≡ whole
   board-own c e h = refused (λ s. unless c _ e h (rw (s .variables, s .values) (eq-eqb (sum (sizesOf (recordsOf r))) (sum (sizesOf (recordsOf r))) refl)))
+
+-- a board that is to be fresh: it is tested with its blocks full
+module _ (r : Records) (cs fs vs bs ns ds : List ℕ) (g : Groups) where
+  abbrev full-lengths : List ℕ
+  full-lengths = fullLengths (blockSizes (curvesOf cs)) ns
+
+  abbrev tested : Bool → Bool
+  tested fresh = usable (tableOf r cs fs) (cond fresh (full (layout (tableOf r cs fs)) (held (layout (tableOf r cs fs)) (lent vs bs ns ds (groupsOf g))))
+      (held (layout (tableOf r cs fs)) (lent vs bs ns ds (groupsOf g))))
+
+  -- what refuses a board whatever its lengths are refuses it either way
+  module _ (fresh : Bool) where
+    either-way : ((ls : List ℕ) → false ≡ whole r cs fs vs bs ls ds g) → false ≡ tested fresh
+    either-way h = by fresh
+      where
+        by : (b : Bool) → false ≡ tested b
+        by true = h full-lengths
+        by false = h ns
+
+    pub sums-refuse : (b : Bool) → b ≡ eqb (3 * length ds) (16 * length cs) → not b ≡ true → false ≡ tested fresh
+    sums-refuse b e h = either-way (λ ls. board-sums r cs fs vs bs ls ds g b e h)
+
+    pub variables-refuse : (c : Total) → c ≡ variablesTotal (recordsOf r) → not (c .usable) ≡ true → false ≡ tested fresh
+    variables-refuse c e h = either-way (λ ls. board-variables r cs fs vs bs ls ds g c e h)
+
+    pub values-refuse : (c : Total) → c ≡ variablesTotal (recordsOf r) → not (c .usable) ≡ false → (c .bytes ≡ length vs → ⊥) → false ≡ tested fresh
+    values-refuse c e h n = either-way (λ ls. board-values r cs fs vs bs ls ds g c e h n)
+
+    pub functions-refuse : (b : Bool) → b ≡ usableFunctions (functionsOf fs) → not b ≡ true → false ≡ tested fresh
+    functions-refuse b e h = either-way (λ ls. board-functions r cs fs vs bs ls ds g b e h)
+
+    pub groups-refuse : (b : Bool) → b ≡ usableGroups (r .count) (groupsOf g) → not b ≡ true → false ≡ tested fresh
+    groups-refuse b e h = either-way (λ ls. board-groups r cs fs vs bs ls ds g b e h)
+
+    pub curves-refuse : (d : CurveTotal) → d ≡ curvesTotal (curvesOf cs) → not (d .usable) ≡ true → false ≡ tested fresh
+    curves-refuse d e h = either-way (λ ls. board-curves r cs fs vs bs ls ds g d e h)
+
+    pub blocks-refuse : (d : CurveTotal) → d ≡ curvesTotal (curvesOf cs) → not (d .usable) ≡ false → (d .bytes ≡ length bs → ⊥) → false ≡ tested fresh
+    blocks-refuse d e h n = either-way (λ ls. board-blocks r cs fs vs bs ls ds g d e h n)
+
+  pub as-it-is : (fresh k : Bool) → fresh ≡ false → k ≡ whole r cs fs vs bs ns ds g → k ≡ tested fresh
+  as-it-is fresh k e h = rw e h
+
+  -- .. or, where they are to be full, that there is one for each block
+  module _ (d : CurveTotal) (a b m : Bool) (ed : d ≡ curvesTotal (curvesOf cs)) (hd : not (d .usable) ≡ false) (vd : d .bytes ≡ length bs)
+      (em : m ≡ eqb (3 * length ds) (16 * length cs)) (hm : not m ≡ false)
+      (ea : a ≡ usableFunctions (functionsOf fs)) (eb : b ≡ usableGroups (r .count) (groupsOf g))
+      (c : Total) (ec : c ≡ variablesTotal (recordsOf r)) (hc : not (c .usable) ≡ false) (vc : c .bytes ≡ length vs) (ha : not a ≡ false) (hb : not b ≡ false) where
+    full-fit : eqb (d .blocks) (length ns) ≡ fitting (blockSizes (curvesOf cs)) full-lengths
+    full-fit =
+        let u : usableCurves (curvesOf cs) ≡ true = sym (curves-usable _ _ d ed) ∙ not-false _ hd in
+        let n : d .blocks ≡ length (blockSizes (curvesOf cs)) = ap (λ (y : CurveTotal). y .blocks) (curves-told _ _ d ed (not-false _ hd)) ∙ sym (block-count (curvesOf cs)) in
+        bool-eq _ _
+        (λ h. rw (full-sizes (blockSizes (curvesOf cs)) ns (sym (eqb-true _ _ h) ∙ n)) (curves-fit (curvesOf cs) u))
+        (λ h. eq-eqb (d .blocks) (length ns) (n ∙ sym (fit-count (blockSizes (curvesOf cs)) ns h)))
+
+    pub board-freshable : (fresh : Bool) → fresh ≡ true → eqb (d .blocks) (length ns) ≡ tested fresh
+    board-freshable fresh e = rw e (board-fitted r cs fs vs bs full-lengths ds g d a b m ed hd vd em hm ea eb c ec hc vc ha hb _ full-fit)

@@ -3,15 +3,15 @@ use bsmp::CurveNumber;
 use bsmp::Variable;
 use rules::CurveTotal;
 ghost use mathlib.Core.Path.{_≡_};
-ghost use mathlib.Core.Bool.{true, _&&_};
+ghost use mathlib.Core.Bool.{true, cond, _&&_};
 ghost use Prim.Native.Nat.{_+_, _-_, _*_, _%_, _≤_};
 ghost use lib.Dec.{eqb};
 ghost use lib.ListN.{length};
 ghost use Rattle.bsmp.specs.Base.{sum};
 ghost use Rattle.bsmp.specs.Store.{held};
-ghost use Rattle.bsmp.specs.Board.{sizesOf, usableVariables, blockSizes, usableCurves, fitting, layout, usable};
+ghost use Rattle.bsmp.specs.Board.{sizesOf, usableVariables, blockSizes, usableCurves, fitting, layout, full, usable};
 ghost use Rattle.records.specs.Lending.{recordsBy, recordsOf, curvesOf, curveBlocks, groupsBy, groupsOf, tableOf, lent};
-ghost use Rattle.rules.specs.Totals.{curveTotalOf, curvesTotal};
+ghost use Rattle.rules.specs.Totals.{curvesTotal};
 ghost use Rattle.boards.specs.Pieces.{usableFrom};
 
 // Whether the 16 records from `from` on break no rule.
@@ -138,7 +138,7 @@ fn fitting_curves(curves: &[u32], lengths: &[u16]) -> bool
 }
 
 // Whether there is a length for each block of usable curves, 1 to its size. Where all blocks have one size they are tested in one walk.
-pub fn fitting_lengths(curves: &[u32], total: CurveTotal, lengths: &[u16]) -> bool
+fn fitting_lengths(curves: &[u32], total: CurveTotal, lengths: &[u16]) -> bool
     requires { ⌜ (total ≡ curvesTotal (curvesOf (now curves))) × (total .usable ≡ true) ⌝ }
     ensures { λ r. ⌜ r ≡ fitting (blockSizes (curvesOf (now (curves .entry)))) (now (lengths .entry)) ⌝ }
 {
@@ -151,8 +151,8 @@ pub fn fitting_lengths(curves: &[u32], total: CurveTotal, lengths: &[u16]) -> bo
     fitting_curves(curves, lengths)
 }
 
-// Every rule, one after another, of the board with its blocks full; with what the curves add up to.
-pub fn whole_board(
+// Every rule, one after another. A board that is to be fresh is tested with its blocks full: it must have a length for each, whatever it is.
+pub fn usable_board(
     count: usize,
     writable: &[u8; 64],
     sizes: &[u8; 64],
@@ -163,41 +163,46 @@ pub fn whole_board(
     sets: &[u64; 5],
     values: &[u8],
     blocks: &[u8],
+    lengths: &[u16],
     sums: &[u8],
-) -> CurveTotal
+    fresh: bool,
+) -> bool
     ensures { λ r. let records = recordsBy count (now (writable .entry)) (now (sizes .entry)) (now (kinds .entry)) in
         let t = tableOf records (now (curves .entry)) (now (functions .entry)) in
         let groups = groupsOf (groupsBy made (now (sets .entry))) in
-        let full = lent (now (values .entry)) (now (blocks .entry)) (blockSizes (t .curves)) (now (sums .entry)) groups in
-        ⌜ r ≡ curveTotalOf (usable t (held (layout t) full)) (t .curves) ⌝ }
+        let s = held (layout t) (lent (now (values .entry)) (now (blocks .entry)) (now (lengths .entry)) (now (sums .entry)) groups) in
+        ⌜ r ≡ usable t (cond fresh (full (layout t) s) s) ⌝ }
 {
     if !each_summed(curves, sums) {
-        return CurveTotal::REFUSED;
+        return false;
     }
     let variables_total = rules::usable_records(count, writable, sizes, kinds);
     if !variables_total.usable {
-        return CurveTotal::REFUSED;
+        return false;
     }
     if variables_total.bytes as usize != values.len() {
-        return CurveTotal::REFUSED;
+        return false;
+    }
+    if !rules::usable_functions(functions) {
+        return false;
+    }
+    if !rules::usable_groups(made, sets, count) {
+        return false;
     }
     let total = rules::usable_curves(curves);
     if !total.usable {
-        return CurveTotal::REFUSED;
+        return false;
     }
     if total.bytes as usize != blocks.len() {
-        return CurveTotal::REFUSED;
+        return false;
     }
-    if !rules::usable_functions(functions) {
-        return CurveTotal::REFUSED;
+    if fresh {
+        return total.blocks as usize == lengths.len();
     }
-    if !rules::usable_groups(made, sets, count) {
-        return CurveTotal::REFUSED;
-    }
-    total
+    fitting_lengths(curves, total, lengths)
 }
 
-// All rules, for packets: it has one caller, since the compiler takes only such a function into the entry whole.
+// The same as `usable_board`, for packets: it has one caller, since the compiler takes only such a function into the entry whole.
 pub fn quick_board(
     count: usize,
     writable: &[u8; 64],

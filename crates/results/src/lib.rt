@@ -64,7 +64,7 @@ fn judge_result(
         let state = held (layout table) (lent (now (values .entry)) (now (blocks .entry)) (now (lengths .entry)) (now (sums .entry)) groups) in
         ⌜ r ≡ first (faults table state) Refuse (first (resultTests (layout table) room function (ranOf ran (now (output .entry)))) Refuse Pass) ⌝ }
 {
-    let total = boards::whole_board(
+    let usable = boards::usable_board(
         count,
         writable,
         sizes,
@@ -75,12 +75,11 @@ fn judge_result(
         sets,
         values,
         blocks,
+        lengths,
         sums,
+        false,
     );
-    if !total.usable {
-        return Judged::Refuse(Refusal::BoardUnusable);
-    }
-    if !boards::fitting_lengths(curves, total, lengths) {
+    if !usable {
         return Judged::Refuse(Refusal::BoardUnusable);
     }
     if room < 4104 {
@@ -199,7 +198,7 @@ fn judge_store(
         let state = held (layout table) (lent (now (values .entry)) (now (blocks .entry)) (now (lengths .entry)) (now (sums .entry)) groups) in
         ⌜ r ≡ first (faults table state) Refuse (first (storeTests (layout table) variable (now (bytes .entry))) Refuse Pass) ⌝ }
 {
-    let total = boards::whole_board(
+    let usable = boards::usable_board(
         count,
         writable,
         sizes,
@@ -210,12 +209,11 @@ fn judge_store(
         sets,
         values,
         blocks,
+        lengths,
         sums,
+        false,
     );
-    if !total.usable {
-        return Judged::Refuse(Refusal::BoardUnusable);
-    }
-    if !boards::fitting_lengths(curves, total, lengths) {
+    if !usable {
         return Judged::Refuse(Refusal::BoardUnusable);
     }
     let i = variable.0;
@@ -299,7 +297,7 @@ pub fn fresh_board(
         let state = held (layout table) (lent (now (values .entry)) (now (blocks .entry)) (now (lengths .entry)) (now (sums .entry)) groups) in
         ⌜ freshLeft r (now (lengths .exit)) (now (sums .exit)) ≡ freshLeftOf (freshBoard table state) ⌝ }
 {
-    let total = boards::whole_board(
+    let usable = boards::usable_board(
         count,
         writable,
         sizes,
@@ -310,12 +308,11 @@ pub fn fresh_board(
         sets,
         values,
         blocks,
+        lengths,
         sums,
+        true,
     );
-    if !total.usable {
-        return Stored::Refused(Refusal::BoardUnusable);
-    }
-    if total.blocks as usize != lengths.len() {
+    if !usable {
         return Stored::Refused(Refusal::BoardUnusable);
     }
     curves::fresh(curves, blocks, lengths, sums);
