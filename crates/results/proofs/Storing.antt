@@ -52,7 +52,7 @@ module _ (r : Records) where
       pub bytes-right : (n : ℕ) → n ≡ getD (r .sizes) i 0 → not (eqb n (getD (sizesOf (recordsOf r)) i 0)) ≡ false
       bytes-right n k = rw (size-at, eq-eqb _ _ k)
 
-module _ (m : ℕ) (ws ss ks cs fs vs bs ds gs : List ℕ) where
+module _ (m : ℕ) (ws ss ks cs fs vs bs ls ds gs : List ℕ) where
   abbrev r : Records
   r = recordsBy m ws ss ks
 
@@ -60,7 +60,7 @@ module _ (m : ℕ) (ws ss ks cs fs vs bs ds gs : List ℕ) where
   t = tableOf r cs fs
 
   abbrev x : Lent
-  x = lent vs bs ds gs
+  x = lent vs bs ls ds gs
 
   abbrev s : State
   s = held (layout t) x

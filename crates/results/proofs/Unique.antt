@@ -4,7 +4,7 @@ use mathlib.Core.List.{List}
 use Prim.Native.Nat.{ℕ}
 use native.Mathlib.Omega.{arith}
 use lib.ListN.{length}
-use Rattle.bsmp.specs.Board.{Table, State, layout, sizesOf, sumSizes, fresh, faults}
+use Rattle.bsmp.specs.Board.{Table, State, layout, sizesOf, sumSizes, full, fresh, faults}
 use Rattle.bsmp.specs.Packet.{Ending, reply, silence, run, refuse, storeTests, boardStore, freshBoard}
 use Rattle.bsmp.specs.Store.{Lent, held}
 use Rattle.bsmp.specs.declared.VariableNumber.{VariableNumber}
@@ -24,8 +24,9 @@ result-unique x o o′ b b′ h k = (ap (λ (y : ResultLeft). y .outcome) (h ∙
 pub store-unique : (x : StoreLeft) (a a′ : Stored) (vs vs′ : List ℕ) → storeLeft a vs ≡ x → storeLeft a′ vs′ ≡ x → (a ≡ a′) × (vs ≡ vs′)
 store-unique x a a′ vs vs′ h k = (ap (λ (y : StoreLeft). y .stored) (h ∙ sym k), ap (λ (y : StoreLeft). y .values) (h ∙ sym k))
 
-pub fresh-unique : (x : FreshLeft) (a a′ : Stored) (ds ds′ : List ℕ) → freshLeft a ds ≡ x → freshLeft a′ ds′ ≡ x → (a ≡ a′) × (ds ≡ ds′)
-fresh-unique x a a′ ds ds′ h k = (ap (λ (y : FreshLeft). y .stored) (h ∙ sym k), ap (λ (y : FreshLeft). y .sums) (h ∙ sym k))
+pub fresh-unique : (x : FreshLeft) (a a′ : Stored) (ls ls′ ds ds′ : List ℕ) → freshLeft a ls ds ≡ x → freshLeft a′ ls′ ds′ ≡ x → (a ≡ a′) × (ls ≡ ls′) × (ds ≡ ds′)
+fresh-unique x a a′ ls ls′ ds ds′ h k =
+    (ap (λ (y : FreshLeft). y .stored) (h ∙ sym k), ap (λ (y : FreshLeft). y .lengths) (h ∙ sym k), ap (λ (y : FreshLeft). y .sums) (h ∙ sym k))
 
 -- the answer of a board store, and of a fresh board, tells its whole ending
 abbrev endingOf : Stored → Ending
@@ -40,7 +41,7 @@ store-ends t i b s =
 
 pub fresh-ends : (t : Table) (s : State) → freshBoard t s .ending ≡ endingOf (storedOf (freshBoard t s .ending))
 unfolding freshBoard
-fresh-ends t s = first-case (λ r. r .ending ≡ endingOf (storedOf (r .ending))) (faults t s) (refuse s) _ (λ n. refl) (λ c. refl)
+fresh-ends t s = first-case (λ r. r .ending ≡ endingOf (storedOf (r .ending))) (faults t (full (layout t) s)) (refuse s) _ (λ n. refl) (λ c. refl)
 
 reply-no : (n : Refusal) (k : ℕ) → O.Refused n ≡ O.Reply k → ⊥
 reply-no n k h = let z : _≡_ {A = ℕ} 0 1 = cc in omega arith
@@ -66,9 +67,10 @@ refused-values t i b x n vs′ =
     kept : (m : Refusal) → storeLeft (Refused n) vs′ ≡ storeLeftOf (refuse (held (layout t) x) m) → vs′ ≡ x .values
     kept m h = ap (λ (y : StoreLeft). y .values) h ∙ join-cut (sizesOf (t .variables)) (x .values)
 
-pub refused-sums : (t : Table) (x : Lent) (n : Refusal) (ds′ : List ℕ) → freshLeft (Refused n) ds′ ≡ freshLeftOf (freshBoard t (held (layout t) x)) → ds′ ≡ x .sums
+pub refused-fresh : (t : Table) (x : Lent) (n : Refusal) (ls′ ds′ : List ℕ) → freshLeft (Refused n) ls′ ds′ ≡ freshLeftOf (freshBoard t (held (layout t) x))
+    → (ls′ ≡ x .lengths) × (ds′ ≡ x .sums)
 unfolding freshBoard fresh
-refused-sums t x n ds′ =
-    first-case (λ r. freshLeft (Refused n) ds′ ≡ freshLeftOf r → ds′ ≡ x .sums) (faults t (held (layout t) x)) (refuse (held (layout t) x)) _
-    (λ m h. ap (λ (y : FreshLeft). y .sums) h ∙ join-cut (sumSizes (t .curves)) (x .sums))
+refused-fresh t x n ls′ ds′ =
+    first-case (λ r. freshLeft (Refused n) ls′ ds′ ≡ freshLeftOf r → (ls′ ≡ x .lengths) × (ds′ ≡ x .sums)) (faults t (full (layout t) (held (layout t) x))) (refuse (held (layout t) x)) _
+    (λ m h. (ap (λ (y : FreshLeft). y .lengths) h, ap (λ (y : FreshLeft). y .sums) h ∙ join-cut (sumSizes (t .curves)) (x .sums)))
     (λ c h. absurd (done-no n (ap (λ (y : FreshLeft). y .stored) h)))

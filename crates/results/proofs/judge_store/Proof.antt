@@ -12,6 +12,6 @@ judge-store-spec =
     tie.close
     (tie.spec (λ c κs. search needs) (λ c. search (board-refuses, needs))
     (λ c. search (board-passes, first-stop, variable-missing, needs) depth 5)
-    (λ c. search size-inside) (λ c. fits-widen tt (c .shared-slice-known7 .given _))
+    (λ c. search size-inside) (λ c. fits-widen tt (c .shared-slice-known8 .given _))
     (λ c. search (board-passes, first-next, first-stop, variable-known, bytes-wrong, needs) depth 6)
     (λ c. search (board-passes, first-next, first-end, variable-known, bytes-right, needs) depth 7))
