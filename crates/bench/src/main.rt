@@ -320,7 +320,18 @@ fn turn(
         };
     }
     let all = have + n;
-    let p = drain(buf, all, number, groups, values, blocks, lengths, sums, reply, out);
+    let p = drain(
+        buf,
+        all,
+        number,
+        groups,
+        values,
+        blocks,
+        lengths,
+        sums,
+        reply,
+        out,
+    );
     let at = p.at;
     shift(buf, at, all);
     let g = p.groups;
@@ -353,7 +364,18 @@ fn run(
     let mut turns = u64::MAX;
     let mut go = true;
     while 0 < turns && go {
-        let r = turn(buf, have, number, groups, values, blocks, lengths, sums, reply, out);
+        let r = turn(
+            buf,
+            have,
+            number,
+            groups,
+            values,
+            blocks,
+            lengths,
+            sums,
+            reply,
+            out,
+        );
         have = r.have;
         number = r.number;
         groups = r.groups;

@@ -11,7 +11,7 @@ use borrow.Author.Tests.{ne-eqb}
 use lib.ListN.{length, take, drop, length-take, length-append, length-map}
 use lib.Seq.{take-take, take-append-seam}
 use Rattle.bsmp.specs.Base.{join, every}
-use Rattle.bsmp.specs.Board.{Table, layout, State, usable, faults, variable, function}
+use Rattle.bsmp.specs.Board.{Table, layout, State, full, usable, faults, variable, function}
 use Rattle.bsmp.specs.Packet.{Place, Result, refuse, storeTests, boardStore, freshBoard}
 use Rattle.bsmp.specs.Store.{Lent, held, lentOf, bytesIn, Left, leaves}
 use Rattle.bsmp.specs.Apart.{arrives, happen, reads, packetIn, resultIn, eventOf, leftBy, Seen, answerIn, seenOf, seenAll, lentAfter, LentAlike, unread}
@@ -27,7 +27,7 @@ use Rattle.bsmp.proofs.Store.{lent-held}
 use Rattle.bsmp.proofs.Stays.{stays, held-again}
 use Rattle.bsmp.proofs.Lent.{lent-before, lent-apart}
 use Rattle.bsmp.proofs.Busy.{hides, hidden-unread}
-use Rattle.records.specs.Lending.{groupsOf, lentValues, lentSums}
+use Rattle.records.specs.Lending.{groupsOf, lentValues, lentBlocks, lentSums}
 use Rattle.records.specs.declared.Groups.{Groups}
 use Rattle.records.proofs.Lending.{groups-lent}
 use Rattle.records.proofs.Sound.{usable-sound, groups-most}
@@ -36,7 +36,7 @@ use Rattle.node.specs.Promise.{tableWith}
 use Rattle.results.specs.Results.{ranOf, storedOf}
 use Rattle.plain.specs.Lending.{Lending, lending, tableIn, lentIn, heldIn}
 use Rattle.plain.specs.Numbers.{plainOutcomeOf, ranFrom, storedNumber}
-use Rattle.plain.specs.Calls.{PlainPacketLeft, packetOf, PlainResultLeft, resultOf, PlainBytesLeft, storeOf, freshOf}
+use Rattle.plain.specs.Calls.{PlainPacketLeft, packetOf, PlainResultLeft, resultOf, PlainBytesLeft, storeOf, PlainFreshLeft, freshOf}
 use Rattle.plain.proofs.Back.{refusal-some}
 use Rattle.bsmp_c.specs.Runs.{Turn, packetTurn, resultTurn, storeTurn, freshTurn, Promised, leftIn, Runs, lastIn, callOf, callsIn}
 use Rattle.bsmp_c.specs.Runs.{PlainSeen, plainSeen, numberSeen, sees, seenIn, IsRefused, bufferIn, bufferLeft}
@@ -83,7 +83,7 @@ module _ (own multicast : ℕ) (x : Lending) (u : usable (tableIn x) (heldIn x) 
       let e : groupsOf (z .groups) ≡ after .groups = (λ i. groupsOf (h i .groups)) ∙ table-says (after .groups) (x .groups) few in
       record {
         sees-it = (λ i. plainSeen (h i .outcome) (h i .reply)) ∙ seen-plain (y .outcome) (y .buffer);
-        leaves-it = λ i. record { values = h i .values; blocks = h i .blocks; sums = h i .sums; groups = e i };
+        leaves-it = λ i. record { values = h i .values; blocks = h i .blocks; lengths = h i .lengths; sums = h i .sums; groups = e i };
       }
 
   -- `bsmp_function_result`: nothing that the board holds changes
@@ -114,19 +114,21 @@ module _ (own multicast : ℕ) (x : Lending) (u : usable (tableIn x) (heldIn x) 
         leaves-it = ap (λ (y : PlainBytesLeft). lentValues (lentIn x) (y .bytes)) h ∙ sym (k ∙ ap (λ y. lentValues y (join (after .values))) (lent-held (layout t) (lentIn x)));
       }
 
-  -- `bsmp_fresh_board`: all but the sums stays
+  -- `bsmp_fresh_board`: all but the lengths and the sums stays
   fresh-seen : (s : State) → numberSeen (storedNumber (storedOf (freshBoard t s .ending))) ≡ plainSeenOf (seenOf (leaves (freshBoard t s) []))
   unfolding freshBoard
   fresh-seen s =
-      first-case (λ y. numberSeen (storedNumber (storedOf (y .ending))) ≡ plainSeenOf (seenOf (leaves y []))) (faults t s) (refuse s) _ number-refused (λ c. refl)
+      first-case (λ y. numberSeen (storedNumber (storedOf (y .ending))) ≡ plainSeenOf (seenOf (leaves y []))) (faults t (full (layout t) s)) (refuse s) _ number-refused (λ c. refl)
 
-  fresh-gives : (z : PlainBytesLeft) → z ≡ freshOf x → Gives a x (freshTurn z)
+  fresh-gives : (z : PlainFreshLeft) → z ≡ freshOf x → Gives a x (freshTurn z)
   fresh-gives z h =
       let after : State = freshBoard t (heldIn x) .state in
-      let k : lentOf after ≡ lentSums (lentOf (heldIn x)) (join (after .sums)) = ap lentOf (fresh-keeps t (heldIn x)) in
+      let with-both : Lent → List ℕ → List ℕ → Lent = λ y ls ds. lentSums (lentBlocks y (y .blocks) ls) ds in
+      let k : lentOf after ≡ with-both (lentOf (heldIn x)) (after .lengths) (join (after .sums)) = ap lentOf (fresh-keeps t (heldIn x)) in
       record {
-        sees-it = ap (λ (y : PlainBytesLeft). numberSeen (y .number)) h ∙ fresh-seen (heldIn x);
-        leaves-it = ap (λ (y : PlainBytesLeft). lentSums (lentIn x) (y .bytes)) h ∙ sym (k ∙ ap (λ y. lentSums y (join (after .sums))) (lent-held (layout t) (lentIn x)));
+        sees-it = ap (λ (y : PlainFreshLeft). numberSeen (y .number)) h ∙ fresh-seen (heldIn x);
+        leaves-it = ap (λ (y : PlainFreshLeft). with-both (lentIn x) (y .lengths) (y .sums)) h
+            ∙ sym (k ∙ ap (λ y. with-both y (after .lengths) (join (after .sums))) (lent-held (layout t) (lentIn x)));
       }
 
   gives : (r : Turn) → Promised own multicast x r → Gives a x r
@@ -180,24 +182,24 @@ module _ (own multicast : ℕ) where
 pub refused-leaves : (own multicast : ℕ) (x : Lending) (r : Turn) → length (x .groups .sets) ≡ 5 → Promised own multicast x r → IsRefused r
     → (leftIn x r ≡ x) × (bufferLeft r ≡ bufferIn r)
 refused-leaves own multicast x (packetTurn busy p b z) five h k =
-    let w = packet-refused x own multicast busy p b (z .outcome) (z .groups) (z .reply) (z .values) (z .blocks) (z .sums) five h k in
-    (λ i. lending (x .variables) (x .curves) (x .functions) (w .4 i) (w .1 i) (w .2 i) (w .3 i), w .0)
+    let w = packet-refused x own multicast busy p b (z .outcome) (z .groups) (z .reply) (z .values) (z .blocks) (z .lengths) (z .sums) five h k in
+    (λ i. lending (x .variables) (x .curves) (x .functions) (w .5 i) (w .1 i) (w .2 i) (w .3 i) (w .4 i), w .0)
 refused-leaves own multicast x (resultTurn f due failed error out b z) five h k =
     (refl, function-result-refused x f due failed error out b (z .outcome) (z .reply) h k)
 refused-leaves own multicast x (storeTurn i b z) five h k =
     let w = board-store-refused x i b (z .number) (z .bytes) h k in
-    (λ j. lending (x .variables) (x .curves) (x .functions) (x .groups) (w j) (x .blocks) (x .sums), refl)
+    (λ j. lending (x .variables) (x .curves) (x .functions) (x .groups) (w j) (x .blocks) (x .lengths) (x .sums), refl)
 refused-leaves own multicast x (freshTurn z) five h k =
-    let w = fresh-board-refused x (z .number) (z .bytes) h k in
-    (λ j. lending (x .variables) (x .curves) (x .functions) (x .groups) (x .values) (x .blocks) (w j), refl)
+    let w = fresh-board-refused x (z .number) (z .lengths) (z .sums) h k in
+    (λ j. lending (x .variables) (x .curves) (x .functions) (x .groups) (x .values) (x .blocks) (w .0 j) (w .1 j), refl)
 
 -- demand 3 for two runs, on two boards with the same records that lend alike but for v: the same calls, none of which reads v
-module _ (own multicast : ℕ) (vs : List Variable) (cs fs : List ℕ) (g₁ g₂ : Groups) (values₁ values₂ blocks₁ blocks₂ sums₁ sums₂ : List ℕ) (v : VariableNumber) where
+module _ (own multicast : ℕ) (vs : List Variable) (cs fs : List ℕ) (g₁ g₂ : Groups) (values₁ values₂ blocks₁ blocks₂ lengths₁ lengths₂ sums₁ sums₂ : List ℕ) (v : VariableNumber) where
   abbrev x₁ : Lending
-  x₁ = lending vs cs fs g₁ values₁ blocks₁ sums₁
+  x₁ = lending vs cs fs g₁ values₁ blocks₁ lengths₁ sums₁
 
   abbrev x₂ : Lending
-  x₂ = lending vs cs fs g₂ values₂ blocks₂ sums₂
+  x₂ = lending vs cs fs g₂ values₂ blocks₂ lengths₂ sums₂
 
   abbrev T : Table
   T = tableIn x₁

@@ -22,16 +22,16 @@ use Rattle.readings.specs.declared.SignedReading.{SignedReading}
 use Rattle.readings.specs.declared.SignedReading.the-variants.{Is}
 use Rattle.readings.specs.declared.Writing.{Writing}
 use Rattle.plain.specs.Numbers.{plainOutcomeOf, storedNumber, writingNumber, PlainReading, plainReading, plainReadingOf}
-use Rattle.plain.specs.Calls.{plainPacketLeft, plainPacketLeftOf, plainResultLeft, plainResultLeftOf, plainBytesLeft, plainStoreLeftOf, plainFreshLeftOf, plainWritingLeftOf, writingOf}
+use Rattle.plain.specs.Calls.{plainPacketLeft, plainPacketLeftOf, plainResultLeft, plainResultLeftOf, plainBytesLeft, plainStoreLeftOf, plainFreshLeft, plainFreshLeftOf, plainWritingLeftOf, writingOf}
 use Rattle.plain.specs.declared.PlainOutcome.{PlainOutcome}
 
 -- z′ is the number as the machine has it
 pub signed-plain : (x : SignedReading) (z z′ : ℤ) → x ≡ Is z → z′ ≡ z → plainReading 0 z′ ≡ plainReadingOf (signedReadingOf x)
 signed-plain x z z′ e q = rw e (ap (λ (y : ℤ). plainReading 0 y) q)
 
-pub packet-plain : (d : Done) (o : PlainOutcome) (x : PacketLeft) (gs r vs bs ds : List ℕ) → packetLeft d gs r vs bs ds ≡ x → o ≡ plainOutcomeOf (d .outcome)
-    → plainPacketLeft o (groupsBy (d .count) gs) r vs bs ds ≡ plainPacketLeftOf x
-packet-plain d o x gs r vs bs ds e q = ap (λ (u : PlainOutcome). plainPacketLeft u (groupsBy (d .count) gs) r vs bs ds) q ∙ ap plainPacketLeftOf e
+pub packet-plain : (d : Done) (o : PlainOutcome) (x : PacketLeft) (gs r vs bs ls ds : List ℕ) → packetLeft d gs r vs bs ls ds ≡ x → o ≡ plainOutcomeOf (d .outcome)
+    → plainPacketLeft o (groupsBy (d .count) gs) r vs bs ls ds ≡ plainPacketLeftOf x
+packet-plain d o x gs r vs bs ls ds e q = ap (λ (u : PlainOutcome). plainPacketLeft u (groupsBy (d .count) gs) r vs bs ls ds) q ∙ ap plainPacketLeftOf e
 
 -- ran′ is how the function ran, as plain numbers say it
 pub result-plain : (t : Table) (n : ℕ) (f : FunctionNumber) (due : Bool) (s : State) (ran ran′ : Ran) (output reply : List ℕ)
@@ -44,8 +44,8 @@ result-plain t n f due s ran ran′ output reply o p r h e q =
 pub store-plain : (s : Stored) (n : ℕ) (x : StoreLeft) (vs : List ℕ) → storeLeft s vs ≡ x → n ≡ storedNumber s → plainBytesLeft n vs ≡ plainStoreLeftOf x
 store-plain s n x vs e q = ap (λ (m : ℕ). plainBytesLeft m vs) q ∙ ap plainStoreLeftOf e
 
-pub fresh-plain : (s : Stored) (n : ℕ) (x : FreshLeft) (ds : List ℕ) → freshLeft s ds ≡ x → n ≡ storedNumber s → plainBytesLeft n ds ≡ plainFreshLeftOf x
-fresh-plain s n x ds e q = ap (λ (m : ℕ). plainBytesLeft m ds) q ∙ ap plainFreshLeftOf e
+pub fresh-plain : (s : Stored) (n : ℕ) (x : FreshLeft) (ls ds : List ℕ) → freshLeft s ls ds ≡ x → n ≡ storedNumber s → plainFreshLeft n ls ds ≡ plainFreshLeftOf x
+fresh-plain s n x ls ds e q = ap (λ (m : ℕ). plainFreshLeft m ls ds) q ∙ ap plainFreshLeftOf e
 
 pub write-plain : (w : Writing) (n : ℕ) (x : WritingLeft) (b : List ℕ) → writingLeft w b ≡ x → n ≡ writingNumber w → plainBytesLeft n b ≡ plainWritingLeftOf x
 write-plain w n x b e q = ap (λ (m : ℕ). plainBytesLeft m b) q ∙ ap plainWritingLeftOf e

@@ -18,10 +18,10 @@ use Rattle.bsmp_c.proofs.bsmp_board_store.Statement as stated
 use Rattle.bsmp_c.proofs.bsmp_board_store.Code as code
 
 abbrev turnOf : thin.TurnOf
-turnOf variables curves functions groups values blocks sums number bytes = storeOf (lending variables curves functions groups values blocks sums) number bytes
+turnOf variables curves functions groups values blocks lengths sums number bytes = storeOf (lending variables curves functions groups values blocks lengths sums) number bytes
 
 agree : thin.Agree turnOf
-agree variables curves functions groups values blocks sums number bytes = store-same (lending variables curves functions groups values blocks sums) number bytes
+agree variables curves functions groups values blocks lengths sums number bytes = store-same (lending variables curves functions groups values blocks lengths sums) number bytes
 
 pub bsmp-board-store-spec : {M : Type 1} → stated.statement M
 unfolding code.routine tablesOf

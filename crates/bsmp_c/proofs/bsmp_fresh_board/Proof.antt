@@ -18,10 +18,10 @@ use Rattle.bsmp_c.proofs.bsmp_fresh_board.Statement as stated
 use Rattle.bsmp_c.proofs.bsmp_fresh_board.Code as code
 
 abbrev turnOf : thin.TurnOf
-turnOf variables curves functions groups values blocks sums = freshOf (lending variables curves functions groups values blocks sums)
+turnOf variables curves functions groups values blocks lengths sums = freshOf (lending variables curves functions groups values blocks lengths sums)
 
 agree : thin.Agree turnOf
-agree variables curves functions groups values blocks sums = fresh-same (lending variables curves functions groups values blocks sums)
+agree variables curves functions groups values blocks lengths sums = fresh-same (lending variables curves functions groups values blocks lengths sums)
 
 pub bsmp-fresh-board-spec : {M : Type 1} → stated.statement M
 unfolding code.routine tablesOf

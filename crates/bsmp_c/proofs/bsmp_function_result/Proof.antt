@@ -18,10 +18,10 @@ use Rattle.bsmp_c.proofs.bsmp_function_result.Statement as stated
 use Rattle.bsmp_c.proofs.bsmp_function_result.Code as code
 
 abbrev turnOf : thin.TurnOf
-turnOf variables curves functions groups values blocks sums number due failed error output reply = resultOf (lending variables curves functions groups values blocks sums) number due failed error output reply
+turnOf variables curves functions groups values blocks lengths sums number due failed error output reply = resultOf (lending variables curves functions groups values blocks lengths sums) number due failed error output reply
 
 agree : thin.Agree turnOf
-agree variables curves functions groups values blocks sums number due failed error output reply = result-same (lending variables curves functions groups values blocks sums) number due failed error output reply
+agree variables curves functions groups values blocks lengths sums number due failed error output reply = result-same (lending variables curves functions groups values blocks lengths sums) number due failed error output reply
 
 pub bsmp-function-result-spec : {M : Type 1} → stated.statement M
 unfolding code.routine tablesOf

@@ -18,10 +18,10 @@ use Rattle.bsmp_c.proofs.bsmp_packet.Statement as stated
 use Rattle.bsmp_c.proofs.bsmp_packet.Code as code
 
 abbrev turnOf : thin.TurnOf
-turnOf variables curves functions groups own multicast busy values blocks sums request reply = packetOf (lending variables curves functions groups values blocks sums) own multicast busy request reply
+turnOf variables curves functions groups own multicast busy values blocks lengths sums request reply = packetOf (lending variables curves functions groups values blocks lengths sums) own multicast busy request reply
 
 agree : thin.Agree turnOf
-agree variables curves functions groups own multicast busy values blocks sums request reply = packet-same (lending variables curves functions groups values blocks sums) own multicast busy request reply
+agree variables curves functions groups own multicast busy values blocks lengths sums request reply = packet-same (lending variables curves functions groups values blocks lengths sums) own multicast busy request reply
 
 pub bsmp-packet-spec : {M : Type 1} → stated.statement M
 unfolding code.routine tablesOf
