@@ -7,12 +7,12 @@ use Rattle.bench.proofs.drain.Statement.{statement}
 use Rattle.bench.proofs.drain.Tie as tie
 
 abbrev Inv-loop : tie.InvT-loop
-Inv-loop buf have number values₀ blocks₀ sums₀ reply₀ out₀ p₀ size₀ values blocks sums reply out p size =
-    (length values ≡ length values₀) × (length blocks ≡ length blocks₀) × (length sums ≡ length sums₀) × (length reply ≡ length reply₀) × (length out ≡ length out₀)
+Inv-loop buf have number values₀ blocks₀ lengths₀ sums₀ reply₀ out₀ p₀ size₀ values blocks lengths sums reply out p size =
+    (length values ≡ length values₀) × (length blocks ≡ length blocks₀) × (length lengths ≡ length lengths₀) × (length sums ≡ length sums₀) × (length reply ≡ length reply₀) × (length out ≡ length out₀)
     × (p .at + size ≤ have) × (p .used ≤ length out₀)
 
 abbrev μ-loop : tie.MeasureT-loop
-μ-loop buf have number values₀ blocks₀ sums₀ reply₀ out₀ p₀ size₀ values blocks sums reply out p size = have - p .at
+μ-loop buf have number values₀ blocks₀ lengths₀ sums₀ reply₀ out₀ p₀ size₀ values blocks lengths sums reply out p size = have - p .at
 
 pub drain-spec : {M : Type 1} → statement M
 drain-spec =
@@ -20,4 +20,4 @@ drain-spec =
     (tie.spec
     Inv-loop μ-loop (λ c κs. search needs) (λ c. search needs) (λ c κs. search needs) (λ c κs. search needs) (λ c. search needs) (λ c. search needs) (λ c. search needs)
     (λ c. search needs) (λ c. search needs) (λ c κs. search needs) (λ c. search needs) (λ c. search needs) (λ c. search needs) (λ c. search needs)
-    (λ c. search needs) (λ c. search needs))
+    (λ c. search needs) (λ c. search needs) (λ c. search needs))

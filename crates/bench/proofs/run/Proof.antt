@@ -7,12 +7,12 @@ use Rattle.bench.proofs.run.Statement.{statement}
 use Rattle.bench.proofs.run.Tie as tie
 
 abbrev Inv-loop : tie.InvT-loop
-Inv-loop buf₀ values₀ blocks₀ sums₀ reply₀ out₀ groups₀ have₀ number₀ turns₀ go₀ buf values blocks sums reply out groups have number turns go =
-    (length buf ≡ length buf₀) × (length values ≡ length values₀) × (length blocks ≡ length blocks₀) × (length sums ≡ length sums₀) × (length reply ≡ length reply₀)
+Inv-loop buf₀ values₀ blocks₀ lengths₀ sums₀ reply₀ out₀ groups₀ have₀ number₀ turns₀ go₀ buf values blocks lengths sums reply out groups have number turns go =
+    (length buf ≡ length buf₀) × (length values ≡ length values₀) × (length blocks ≡ length blocks₀) × (length lengths ≡ length lengths₀) × (length sums ≡ length sums₀) × (length reply ≡ length reply₀)
     × (length out ≡ length out₀) × (have ≤ length buf₀)
 
 abbrev μ-loop : tie.MeasureT-loop
-μ-loop buf₀ values₀ blocks₀ sums₀ reply₀ out₀ groups₀ have₀ number₀ turns₀ go₀ buf values blocks sums reply out groups have number turns go = turns
+μ-loop buf₀ values₀ blocks₀ lengths₀ sums₀ reply₀ out₀ groups₀ have₀ number₀ turns₀ go₀ buf values blocks lengths sums reply out groups have number turns go = turns
 
 pub run-spec : {M : Type 1} → statement M
 run-spec =
@@ -20,4 +20,4 @@ run-spec =
     (tie.spec
     Inv-loop μ-loop (λ c. search needs) (λ c κs. search needs) (λ c. search needs) (λ c. search needs) (λ c. search needs) (λ c. search needs)
     (λ c. search needs) (λ c. search needs) (λ c. search needs) (λ c. search needs) (λ c. search needs) (λ c. search needs) (λ c. search needs)
-    (λ c. search needs) (λ c. search needs) (λ c. search needs) (λ c. search needs) (λ c. search needs) (λ c. search needs))
+    (λ c. search needs) (λ c. search needs) (λ c. search needs) (λ c. search needs) (λ c. search needs) (λ c. search needs) (λ c. search needs) (λ c. search needs))
