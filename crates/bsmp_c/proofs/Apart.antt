@@ -1,6 +1,7 @@
--- Demand 3, said of the exported functions: what runs of calls give on two boards that lend alike but for the bytes of variable v. A run is
--- a chain of calls of which nothing is known but that each keeps its function's promise (`Runs`); `run-is` says that it is the definition's
--- run of the same calls, so the laws of Rattle.bsmp.proofs.Lent on runs of calls hold of it. Assumes nothing.
+-- Demand 3, said of the exported functions: what runs of calls give on two boards that lend alike but for the bytes of variable v, or for
+-- bytes past the blocks' lengths. A run is a chain of calls of which nothing is known but that each keeps its function's promise (`Runs`);
+-- `run-is` says that it is the definition's run of the same calls, so the laws of Rattle.bsmp.proofs.Lent on runs of calls hold of it.
+-- Assumes nothing.
 use mathlib.Core.Path.{_≡_, refl, sym, ap, ap₂, _∙_, subst₂}
 use mathlib.Core.Logic.{_↔_}
 use mathlib.Core.Bool.{Bool, true}
@@ -14,7 +15,7 @@ use Rattle.bsmp.specs.Base.{join, every}
 use Rattle.bsmp.specs.Board.{Table, layout, State, full, usable, faults, variable, function}
 use Rattle.bsmp.specs.Packet.{Place, Result, refuse, storeTests, boardStore, freshBoard}
 use Rattle.bsmp.specs.Store.{Lent, held, lentOf, bytesIn, Left, leaves}
-use Rattle.bsmp.specs.Apart.{arrives, happen, reads, packetIn, resultIn, eventOf, leftBy, Seen, answerIn, seenOf, seenAll, lentAfter, LentAlike, unread}
+use Rattle.bsmp.specs.Apart.{arrives, happen, reads, packetIn, resultIn, eventOf, leftBy, Seen, answerIn, seenOf, seenAll, lentAfter, LentAlike, LentAlikeButStale, unread, neverFresh}
 use Rattle.bsmp.specs.Codes.{refusalNumber}
 use Rattle.bsmp.specs.declared.VariableNumber.{VariableNumber}
 use Rattle.bsmp.specs.declared.Variable.{Variable}
@@ -25,7 +26,7 @@ use Rattle.bsmp.proofs.Chain.{first-case}
 use Rattle.bsmp.proofs.Keeps.{result-keeps, store-keeps, fresh-keeps}
 use Rattle.bsmp.proofs.Store.{lent-held}
 use Rattle.bsmp.proofs.Stays.{stays, held-again}
-use Rattle.bsmp.proofs.Lent.{lent-before, lent-apart}
+use Rattle.bsmp.proofs.Lent.{lent-before, lent-apart, lent-stale}
 use Rattle.bsmp.proofs.Busy.{hides, hidden-unread}
 use Rattle.records.specs.Lending.{groupsOf, lentValues, lentBlocks, lentSums}
 use Rattle.records.specs.declared.Groups.{Groups}
@@ -193,8 +194,8 @@ refused-leaves own multicast x (freshTurn z) five h k =
     let w = fresh-board-refused x (z .number) (z .lengths) (z .sums) h k in
     (λ j. lending (x .variables) (x .curves) (x .functions) (x .groups) (x .values) (x .blocks) (w .0 j) (w .1 j), refl)
 
--- demand 3 for two runs, on two boards with the same records that lend alike but for v: the same calls, none of which reads v
-module _ (own multicast : ℕ) (vs : List Variable) (cs fs : List ℕ) (g₁ g₂ : Groups) (values₁ values₂ blocks₁ blocks₂ lengths₁ lengths₂ sums₁ sums₂ : List ℕ) (v : VariableNumber) where
+-- two runs, on two boards with the same records
+module _ (own multicast : ℕ) (vs : List Variable) (cs fs : List ℕ) (g₁ g₂ : Groups) (values₁ values₂ blocks₁ blocks₂ lengths₁ lengths₂ sums₁ sums₂ : List ℕ) where
   abbrev x₁ : Lending
   x₁ = lending vs cs fs g₁ values₁ blocks₁ lengths₁ sums₁
 
@@ -207,44 +208,57 @@ module _ (own multicast : ℕ) (vs : List Variable) (cs fs : List ℕ) (g₁ g�
   abbrev A : Place
   A = placed own multicast
 
-  module _ (u₁ : usable T (heldIn x₁) ≡ true) (u₂ : usable T (heldIn x₂) ≡ true) (h : LentAlike (layout T) v (lentIn x₁) (lentIn x₂))
-      (rs₁ rs₂ : List Turn) (runs₁ : Runs own multicast x₁ rs₁) (runs₂ : Runs own multicast x₂ rs₂)
-      (same : map eventOf (callsIn rs₁) ≡ map eventOf (callsIn rs₂)) (quiet : unread T A v (map eventOf (callsIn rs₁)) (heldIn x₁) ≡ true) where
+  module _ (u₁ : usable T (heldIn x₁) ≡ true) (u₂ : usable T (heldIn x₂) ≡ true)
+      (rs₁ rs₂ : List Turn) (runs₁ : Runs own multicast x₁ rs₁) (runs₂ : Runs own multicast x₂ rs₂) where
     abbrev y₁ : Lending
     y₁ = lastIn x₁ rs₁
 
     abbrev y₂ : Lending
     y₂ = lastIn x₂ rs₂
 
-    -- all that is seen is equal, and the boards lend alike but for v ..
-    pub runs-before : (seenIn rs₁ ≡ seenIn rs₂) × LentAlike (layout T) v (lentIn y₁) (lentIn y₂)
-    runs-before =
-        let b = lent-before T A v (lentIn x₁) (lentIn x₂) u₁ u₂ h (callsIn rs₁) (callsIn rs₂) same quiet in
+    -- what the definition's runs see and leave alike these do
+    alike : (R : Lent → Lent → Type 0)
+        → (seenAll T A (callsIn rs₁) (lentIn x₁) ≡ seenAll T A (callsIn rs₂) (lentIn x₂))
+        × R (lentAfter T A (callsIn rs₁) (lentIn x₁)) (lentAfter T A (callsIn rs₂) (lentIn x₂))
+        → (seenIn rs₁ ≡ seenIn rs₂) × R (lentIn y₁) (lentIn y₂)
+    alike R b =
         let n₁ = run-is own multicast x₁ rs₁ u₁ runs₁ in
         let n₂ = run-is own multicast x₂ rs₂ u₂ runs₂ in
-        (n₁ .0 ∙ ap (map plainSeenOf) (b .0) ∙ sym (n₂ .0), subst₂ (LentAlike (layout T) v) (sym (n₁ .1)) (sym (n₂ .1)) (b .1))
+        (n₁ .0 ∙ ap (map plainSeenOf) (b .0) ∙ sym (n₂ .0), subst₂ R (sym (n₁ .1)) (sym (n₂ .1)) (b .1))
 
-    -- .. and at a next call that reads v the answers are equal exactly if the bytes of v that it leaves are
-    pub runs-apart : (r₁ r₂ : Turn) → Promised own multicast y₁ r₁ → Promised own multicast y₂ r₂ → eventOf (callOf r₁) ≡ eventOf (callOf r₂)
-        → v .0 < length vs → reads T A v (eventOf (callOf r₁)) (held (layout T) (lentIn y₁)) ≡ true
-        → (sees r₁ .answer ≡ sees r₂ .answer) ↔ (bytesIn (layout T) (leftIn y₁ r₁ .values) v ≡ bytesIn (layout T) (leftIn y₂ r₂ .values) v)
-    runs-apart r₁ r₂ p₁ p₂ e k q =
-        let n₁ = run-is own multicast x₁ rs₁ u₁ runs₁ in
-        let n₂ = run-is own multicast x₂ rs₂ u₂ runs₂ in
-        let k′ : v .0 < length (layout T .sizes) = rw (length-map vs (λ (w : Variable). w .size)) k in
-        let f = sym (ap (λ y. reads T A v (eventOf (callOf r₁)) (held (layout T) y)) (n₁ .1)) ∙ q in
-        let w = lent-apart T A v (lentIn x₁) (lentIn x₂) u₁ u₂ h (callsIn rs₁) (callsIn rs₂) same quiet (callOf r₁) (callOf r₂) e k′ f in
-        let i₁ = gives own multicast y₁ (n₁ .3) r₁ p₁ in
-        let i₂ = gives own multicast y₂ (n₂ .3) r₂ p₂ in
-        let a₁ = ap (λ (s : PlainSeen). s .answer) (i₁ .sees-it) ∙ ap₂ (λ t y. seenOf (leftBy t A (callOf r₁) y) .answer) (n₁ .2) (n₁ .1) in
-        let a₂ = ap (λ (s : PlainSeen). s .answer) (i₂ .sees-it) ∙ ap₂ (λ t y. seenOf (leftBy t A (callOf r₂) y) .answer) (n₂ .2) (n₂ .1) in
-        let b₁ = ap (λ (y : Lent). bytesIn (layout T) (y .values) v) (i₁ .leaves-it ∙ ap₂ (λ t y. lentOf (leftBy t A (callOf r₁) y .holds)) (n₁ .2) (n₁ .1)) in
-        let b₂ = ap (λ (y : Lent). bytesIn (layout T) (y .values) v) (i₂ .leaves-it ∙ ap₂ (λ t y. lentOf (leftBy t A (callOf r₂) y .holds)) (n₂ .2) (n₂ .1)) in
-        (λ z. b₁ ∙ w .0 (sym a₁ ∙ z ∙ a₂) ∙ sym b₂, λ z. a₁ ∙ w .1 (sym b₁ ∙ z ∙ b₂) ∙ sym a₂)
+    -- the same calls on both
+    module _ (same : map eventOf (callsIn rs₁) ≡ map eventOf (callsIn rs₂)) where
+      -- bytes past the blocks' lengths are never seen: all that is seen is equal, until a fresh board, and the boards lend alike but for such bytes
+      pub runs-stale : LentAlikeButStale (layout T) (lentIn x₁) (lentIn x₂) → neverFresh (map eventOf (callsIn rs₁)) ≡ true
+          → (seenIn rs₁ ≡ seenIn rs₂) × LentAlikeButStale (layout T) (lentIn y₁) (lentIn y₂)
+      runs-stale h old =
+          alike (LentAlikeButStale (layout T)) (lent-stale T A (lentIn x₁) (lentIn x₂) u₁ u₂ h (callsIn rs₁) (callsIn rs₂) same old)
 
-  -- half a value never travels: as long as each packet finds v busy, all that is seen is equal, whatever bytes v has
-  pub runs-busy : usable T (heldIn x₁) ≡ true → usable T (heldIn x₂) ≡ true → LentAlike (layout T) v (lentIn x₁) (lentIn x₂) → (rs₁ rs₂ : List Turn)
-      → Runs own multicast x₁ rs₁ → Runs own multicast x₂ rs₂ → map eventOf (callsIn rs₁) ≡ map eventOf (callsIn rs₂)
-      → every (hides v) (map eventOf (callsIn rs₁)) ≡ true → seenIn rs₁ ≡ seenIn rs₂
-  runs-busy u₁ u₂ h rs₁ rs₂ runs₁ runs₂ same busy =
-      runs-before u₁ u₂ h rs₁ rs₂ runs₁ runs₂ same (hidden-unread T A v (map eventOf (callsIn rs₁)) (heldIn x₁) busy) .0
+      -- demand 3: the boards lend alike but for v, and none of the calls reads v
+      module _ (v : VariableNumber) (h : LentAlike (layout T) v (lentIn x₁) (lentIn x₂)) (quiet : unread T A v (map eventOf (callsIn rs₁)) (heldIn x₁) ≡ true) where
+        -- all that is seen is equal, and the boards lend alike but for v ..
+        pub runs-before : (seenIn rs₁ ≡ seenIn rs₂) × LentAlike (layout T) v (lentIn y₁) (lentIn y₂)
+        runs-before =
+            alike (LentAlike (layout T) v) (lent-before T A v (lentIn x₁) (lentIn x₂) u₁ u₂ h (callsIn rs₁) (callsIn rs₂) same quiet)
+
+        -- .. and at a next call that reads v the answers are equal exactly if the bytes of v that it leaves are
+        pub runs-apart : (r₁ r₂ : Turn) → Promised own multicast y₁ r₁ → Promised own multicast y₂ r₂ → eventOf (callOf r₁) ≡ eventOf (callOf r₂)
+            → v .0 < length vs → reads T A v (eventOf (callOf r₁)) (held (layout T) (lentIn y₁)) ≡ true
+            → (sees r₁ .answer ≡ sees r₂ .answer) ↔ (bytesIn (layout T) (leftIn y₁ r₁ .values) v ≡ bytesIn (layout T) (leftIn y₂ r₂ .values) v)
+        runs-apart r₁ r₂ p₁ p₂ e k q =
+            let n₁ = run-is own multicast x₁ rs₁ u₁ runs₁ in
+            let n₂ = run-is own multicast x₂ rs₂ u₂ runs₂ in
+            let k′ : v .0 < length (layout T .sizes) = rw (length-map vs (λ (w : Variable). w .size)) k in
+            let f = sym (ap (λ y. reads T A v (eventOf (callOf r₁)) (held (layout T) y)) (n₁ .1)) ∙ q in
+            let w = lent-apart T A v (lentIn x₁) (lentIn x₂) u₁ u₂ h (callsIn rs₁) (callsIn rs₂) same quiet (callOf r₁) (callOf r₂) e k′ f in
+            let i₁ = gives own multicast y₁ (n₁ .3) r₁ p₁ in
+            let i₂ = gives own multicast y₂ (n₂ .3) r₂ p₂ in
+            let a₁ = ap (λ (s : PlainSeen). s .answer) (i₁ .sees-it) ∙ ap₂ (λ t y. seenOf (leftBy t A (callOf r₁) y) .answer) (n₁ .2) (n₁ .1) in
+            let a₂ = ap (λ (s : PlainSeen). s .answer) (i₂ .sees-it) ∙ ap₂ (λ t y. seenOf (leftBy t A (callOf r₂) y) .answer) (n₂ .2) (n₂ .1) in
+            let b₁ = ap (λ (y : Lent). bytesIn (layout T) (y .values) v) (i₁ .leaves-it ∙ ap₂ (λ t y. lentOf (leftBy t A (callOf r₁) y .holds)) (n₁ .2) (n₁ .1)) in
+            let b₂ = ap (λ (y : Lent). bytesIn (layout T) (y .values) v) (i₂ .leaves-it ∙ ap₂ (λ t y. lentOf (leftBy t A (callOf r₂) y .holds)) (n₂ .2) (n₂ .1)) in
+            (λ z. b₁ ∙ w .0 (sym a₁ ∙ z ∙ a₂) ∙ sym b₂, λ z. a₁ ∙ w .1 (sym b₁ ∙ z ∙ b₂) ∙ sym a₂)
+
+      -- half a value never travels: as long as each packet finds v busy, all that is seen is equal, whatever bytes v has
+      pub runs-busy : (v : VariableNumber) → LentAlike (layout T) v (lentIn x₁) (lentIn x₂) → every (hides v) (map eventOf (callsIn rs₁)) ≡ true → seenIn rs₁ ≡ seenIn rs₂
+      runs-busy v h busy = runs-before v h (hidden-unread T A v (map eventOf (callsIn rs₁)) (heldIn x₁) busy) .0
