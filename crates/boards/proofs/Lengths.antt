@@ -7,7 +7,7 @@ use native.Mathlib.Omega.{arith}
 use native.Mathlib.Numerals.{add-one}
 use native.Mathlib.Decide.{decLt}
 use lib.Dec.{eqb}
-use lib.ListN.{length, take, drop, getD, replicate, drop-of-length-le, length-drop, List·getD-eq-default}
+use lib.ListN.{length, take, drop, getD, replicate, drop-of-length-le, length-drop, replicate-append-replicate, List·getD-eq-default}
 use lib.Seq.{drop-cons, drop-drop, take-all}
 use mir.Syntax.{w16, w64}
 use mir.Val.{Fits}
@@ -19,8 +19,8 @@ use Rattle.bsmp.specs.declared.Curve.{Curve}
 use Rattle.bsmp.proofs.Bools.{and-true, not-so}
 use Rattle.bsmp.proofs.Lengths.{fitting-count}
 use Rattle.records.specs.Lending.{curveBlocks}
-use Rattle.records.proofs.Sound.{curve-size, blocks-small}
-use Rattle.records.proofs.Blocks.{block-count, blocks-next, blocks-within, blocks-add}
+use Rattle.records.proofs.Sound.{curve-size}
+use Rattle.records.proofs.Blocks.{block-count, blocks-next, blocks-within, blocks-add, blocks-front}
 use Rattle.rules.specs.Totals.{commonSize, firstSize, curvesTotal}
 use Rattle.rules.specs.declared.CurveTotal.{CurveTotal}
 use Rattle.rules.proofs.Totals.{curves-told, curves-usable}
@@ -33,16 +33,12 @@ fitting-part (suc k) z ms [] h = absurd (omega (arith, h))
 fitting-part (suc k) z ms (n ∷ ns) h = ap (within 1 z n &&_) (fitting-part k z ms ns (omega (arith, h))) ∙ sym (and-assoc (within 1 z n) _ _)
 
 -- all blocks in one walk ------------------------------------------------------------------------------------------------------
-replicate-more : (m n z : ℕ) → replicate m z ++ replicate n z ≡ replicate (m + n) z
-replicate-more zero n z = let o : 0 + n ≡ n = omega arith in rw o
-replicate-more (suc m) n z = let o : suc m + n ≡ suc (m + n) = omega arith in rw o (ap (z ∷_) (replicate-more m n z))
-
 one-size : (z : ℕ) (cs : List Curve) → every (ofSize z) cs ≡ true → blockSizes cs ≡ replicate (curveBlocks cs) z
 unfolding sum
 one-size z [] h = refl
 one-size z (c ∷ cs) h =
     let w : (eqb (c .size) z ≡ true) × (every (ofSize z) cs ≡ true) = and-true _ _ h in
-    ap₂ (λ n ms. replicate (c .blocks) n ++ ms) (eqb-true _ _ (w .0)) (one-size z cs (w .1)) ∙ replicate-more (c .blocks) (curveBlocks cs) z
+    ap₂ (λ n ms. replicate (c .blocks) n ++ ms) (eqb-true _ _ (w .0)) (one-size z cs (w .1)) ∙ replicate-append-replicate (c .blocks) (curveBlocks cs) z
 
 common-size : (cs : List Curve) → 0 < commonSize cs → blockSizes cs ≡ replicate (curveBlocks cs) (commonSize cs)
 common-size cs = by (every (ofSize (firstSize cs)) cs) refl
@@ -70,8 +66,8 @@ module _ (cs : List Curve) (d : CurveTotal) (e : d ≡ curvesTotal cs) (u : d .u
   size-told : d .size ≡ commonSize cs
   size-told = ap (λ (y : CurveTotal). y .size) (curves-told _ _ d e u)
 
-  pub size-short : Fits w16 (d .size)
-  size-short = record { fits = omega (arith, size-told, common-short cs usable-ones) }
+  pub common-fits : Fits w16 (d .size)
+  common-fits = record { fits = omega (arith, size-told, common-short cs usable-ones) }
 
   module _ (ns : List ℕ) where
     pub lengths-counted : d .blocks ≡ length ns → length ns ≡ curveBlocks cs
@@ -87,9 +83,6 @@ module _ (cs : List Curve) (d : CurveTotal) (e : d ≡ curvesTotal cs) (u : d .u
         let k : take (curveBlocks cs) ns ≡ ns = take-all (curveBlocks cs) ns (omega arith) in
         let z : drop (curveBlocks cs) ns ≡ [] = drop-of-length-le ns {i = curveBlocks cs} (omega arith) in
         q ∙ sym (ap (λ ms. fitting ms ns) o ∙ fitting-part (curveBlocks cs) (d .size) [] ns (omega arith) ∙ rw (k, z) (and-on _))
-
-pub fitted-short : (cs : List Curve) (n i : ℕ) (x : Curve) → usableCurves cs ≡ true → n ≡ length cs → i < n → x ≡ getD cs i blankCurve → Fits w16 (x .size)
-fitted-short cs n i x u m h e = record { fits = rw e (omega (arith, curve-size cs u i (omega arith))) }
 
 -- curve after curve: the walk stands at curve i, whose first length is at `first`, and so far each fitted ---------------------
 pub record Fitted (cs : List Curve) (ns : List ℕ) (first i : ℕ) : Type 0 where
@@ -110,9 +103,8 @@ module _ (cs : List Curve) (ns : List ℕ) where
     pub fitted-inside : first + x .blocks ≤ length ns
     fitted-inside = rw l (blocks-within cs n i first x u (omega arith) h e (q .start))
 
-    -- a length has two bytes
-    pub fitted-bytes : Fits w64 (first * 2)
-    fitted-bytes = record { fits = omega (arith, fitted-inside, blocks-small cs u) }
+    pub fitted-front : Fits w64 (first * 2)
+    fitted-front = blocks-front cs n i first x u (omega arith) h e (q .start)
 
     module _ (b : Bool) (t : b ≡ every (within 1 (x .size)) (midOf first (first + x .blocks - first) ns)) where
       here : (b && fitting (blockSizes (drop (i + 1) cs)) (drop (first + x .blocks) ns)) ≡ fitting (blockSizes cs) ns

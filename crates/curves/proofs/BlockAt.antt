@@ -14,6 +14,7 @@ use Rattle.bsmp.specs.Board.{blankCurve, blockSizes, usableCurves}
 use Rattle.bsmp.specs.Message.{curveAt, filled}
 use Rattle.bsmp.specs.declared.Curve.{Curve}
 use Rattle.bsmp.specs.declared.CurveNumber.{CurveNumber}
+use Rattle.bsmp.proofs.Lengths.{fitting-count, fitting-most}
 use Rattle.bsmp.proofs.Store.{curve-bytes}
 use Rattle.copies.specs.Put.{put, part}
 use Rattle.copies.proofs.Put.{put-back, put-put, mid-rest, length-part}
@@ -27,7 +28,6 @@ use Rattle.records.proofs.Blocks.{block-count, block-at, block-size, block-insi
 use Rattle.curves.specs.declared.Block.{Block}
 use Rattle.curves.specs.Fits.{SoundCurves, SoundLengths, BlockNamed, BlockRead, BlockFits, namedCurve, blocksIn, placeOf, namedBlock, namedContent, BlockAt}
 use Rattle.curves.proofs.Named.{number, named-record}
-use Rattle.curves.proofs.Lengths.{fit-count, fit-at}
 
 -- as code works it out: x is the curve's record, s where the curve starts, k the block's number
 module _ (cs : List Curve) (p : List ℕ) (c : CurveNumber) (h : c ≡ curveAt p 0) (n : BlockNamed cs p) where
@@ -91,7 +91,7 @@ module _ (cs : List Curve) (s p : List ℕ) (b : Block) (z : SoundCurves cs s) (
 
 module _ (cs : List Curve) (ns p : List ℕ) (b : Block) (z : SoundLengths cs ns) (w : BlockAt cs p b) where
   pub length-inside : b .place < length ns
-  length-inside = omega (arith, w .place, w .below, fit-count (blockSizes cs) ns (z .fit))
+  length-inside = omega (arith, w .place, w .below, fitting-count (blockSizes cs) ns (z .fit))
 
   -- and their number at the block's place
   pub length-set-there : set ns (b .place) (length p - 3) ≡ set ns (placeOf cs p) (length (drop 3 p))
@@ -99,7 +99,7 @@ module _ (cs : List Curve) (ns p : List ℕ) (b : Block) (z : SoundLengths cs ns
 
   -- a block holds no more than its size
   length-own : getD ns (b .place) 0 ≤ namedCurve cs p .size
-  length-own = rw (w .place, ← w .own) (fit-at (blockSizes cs) ns (placeOf cs p) (z .fit) (w .below) .1)
+  length-own = rw (w .place, ← w .own) (fitting-most (blockSizes cs) ns (z .fit) (placeOf cs p))
 
   pub length-fits : Fits w64 (getD ns (b .place) 0)
   length-fits = record { fits = omega (arith, length-own, w .small) }

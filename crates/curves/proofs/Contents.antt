@@ -20,6 +20,7 @@ use Rattle.bsmp.specs.Board.{blankCurve, blockSizes, blockPlace, fitting, usabl
 use Rattle.bsmp.specs.Store.{start}
 use Rattle.bsmp.specs.declared.Curve.{Curve}
 use Rattle.bsmp.specs.declared.CurveNumber.{CurveNumber}
+use Rattle.bsmp.proofs.Lengths.{fitting-count, fitting-most}
 use Rattle.bsmp.proofs.Store.{piece, curve-bytes}
 use Rattle.lists.proofs.Sum.{total-take, total-within}
 use Rattle.parts.specs.Parts.{curvesOnly}
@@ -29,7 +30,6 @@ use Rattle.records.proofs.Sound.{curves-small, blocks-small}
 use Rattle.records.proofs.Blocks.{before-within, blocks-within, block-count, block-size, curve-start}
 use Rattle.curves.specs.declared.Content.{Content}
 use Rattle.curves.specs.Fits.{SoundCurves, SoundLengths, covered, Blocks, ContentAt}
-use Rattle.curves.proofs.Lengths.{fit-count, fit-at}
 
 -- of blocks with these sizes and lengths in a store, n from place k on, all of one size
 module _ (ms ns s : List ℕ) (size : ℕ) (f : fitting ms ns ≡ true) where
@@ -43,12 +43,12 @@ module _ (ms ns s : List ℕ) (size : ℕ) (f : fitting ms ns ≡ true) where
   one-size-next k n o j h = ap (λ (i : ℕ). getD ms i 0) (omega arith) ∙ o (suc j) (omega arith)
 
   lengths-from : (k n : ℕ) → k + suc n ≤ length ms → take (suc n) (drop k ns) ≡ getD ns k 0 ∷ take n (drop (suc k) ns)
-  lengths-from k n h = ap (take (suc n)) (drop-cons ns k 0 (omega (arith, fit-count ms ns f)))
+  lengths-from k n h = ap (take (suc n)) (drop-cons ns k 0 (omega (arith, fitting-count ms ns f)))
 
   each-fits : (k n : ℕ) → k + n ≤ length ms → OneSize k n → every (λ m. leb m size) (take n (drop k ns)) ≡ true
   each-fits k zero h o = refl
   each-fits k (suc n) h o =
-      let c : getD ns k 0 ≤ size = rw (← one-size-first k n o) (fit-at ms ns k f (omega arith) .1) in
+      let c : getD ns k 0 ≤ size = rw (← one-size-first k n o) (fitting-most ms ns f k) in
       rw (lengths-from k n h, le-leb (getD ns k 0) size c) (each-fits (suc k) n (omega arith) (one-size-next k n o))
 
   -- what they hold, one after another: by their own part of the store, and by the pieces of all
@@ -59,7 +59,7 @@ module _ (ms ns s : List ℕ) (size : ℕ) (f : fitting ms ns ≡ true) where
   hold z k (suc n) h o =
       let own : getD ms k 0 ≡ size = one-size-first k n o in
       let c : ℕ = getD ns k 0 in
-      let l : c ≤ size = rw (← own) (fit-at ms ns k f (omega arith) .1) in
+      let l : c ≤ size = rw (← own) (fitting-most ms ns f k) in
       let x : List ℕ = drop (start ms k) s in
       let m : size * suc n ≡ size + size * n = omega arith in
       let w : length (take size x) ≡ size = length-take-le size x (simp length-drop (omega (arith, total-within ms k (omega arith)))) in
@@ -114,7 +114,7 @@ module _ (cs : List Curve) (c : CurveNumber) (x : Curve) (b : Start) (u : usable
         sound = λ s ns y z. rw (n, m) (record {
           whole =
               length-part s (b .bytes) (x .size * x .blocks) (omega (arith, y .exact, curve-bytes cs, room))
-              ∙ ap (x .size *_) (sym (length-part ns (b .blocks) (x .blocks) (omega (arith, fit-count (blockSizes cs) ns (z .fit)))));
+              ∙ ap (x .size *_) (sym (length-part ns (b .blocks) (x .blocks) (omega (arith, fitting-count (blockSizes cs) ns (z .fit)))));
           fit = each-fits (blockSizes cs) ns s (x .size) (z .fit) (b .blocks) (x .blocks) k one-size;
           small = simp (length-take, length-drop) (omega (arith, y .exact, curve-bytes cs, curves-small cs u));
         });
@@ -131,7 +131,7 @@ lengths-front cs c x w u = record { fits = omega (arith, w .lengths-ordered, w .
 
 module _ (cs : List Curve) (c : CurveNumber) (x : Content) (w : ContentAt cs c x) (ns : List ℕ) (z : SoundLengths cs ns) where
   pub lengths-room : x .end ≤ length ns
-  lengths-room = omega (arith, w .lengths-inside, fit-count (blockSizes cs) ns (z .fit))
+  lengths-room = omega (arith, w .lengths-inside, fitting-count (blockSizes cs) ns (z .fit))
 
   pub content-blocks : (s : List ℕ) → SoundCurves cs s → Blocks (x .size) (midOf (x .first) (x .end - x .first) ns) (midOf (x .from) (x .to - x .from) s)
   unfolding part

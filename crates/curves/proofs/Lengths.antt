@@ -1,6 +1,6 @@
--- The blocks' lengths: what fitting ones tell of each, all of them filled, and that full ones fit. Assumes nothing.
+-- The blocks' lengths: that full ones fit, and all of them filled. Assumes nothing.
 use mathlib.Core.Path.{_≡_, refl, sym, ap, ap₂, _∙_}
-use mathlib.Core.Bool.{true, false≢true}
+use mathlib.Core.Bool.{true}
 use mathlib.Core.List.{List, [], _∷_, _++_, append-assoc, append-nil}
 use Prim.Native.Nat.{ℕ, zero, suc, _+_, _-_, _*_, _≤_, _<_}
 use native.Mathlib.Nat.{add-sub-cancel-left}
@@ -8,47 +8,19 @@ use native.Mathlib.Omega.{arith}
 use native.Mathlib.Numerals.{add-one}
 use lib.ListN.{length, take, drop, set, getD, replicate, length-append, length-take, length-drop, length-replicate, replicate-append-replicate, drop-of-length-le}
 use lib.Seq.{set-at, take-at, drop-at, drop-drop, drop-cons, take-all}
-use mir.Syntax.{w16, w64}
+use mir.Syntax.{w64}
 use mir.Val.{Fits}
-use borrow.Author.Tests.{le-leb}
 use borrow.Rule.Slice.PartMut.{midOf, putMid}
-use Rattle.bsmp.specs.Base.{every, within}
-use Rattle.bsmp.specs.Board.{blankCurve, blockSizes, fitting, usableCurve, curveRules, usableCurves}
+use Rattle.bsmp.specs.Board.{blankCurve, blockSizes, usableCurves}
 use Rattle.bsmp.specs.declared.Curve.{Curve}
-use Rattle.bsmp.proofs.Bools.{and-true, all-at}
+use Rattle.bsmp.proofs.Fresh.{curves-fit}
 use Rattle.records.specs.Lending.{curveBlocks}
-use Rattle.records.proofs.Bounds.{inside, curve-rules}
-use Rattle.records.proofs.Sound.{blocks-small, curve-size}
-use Rattle.records.proofs.Blocks.{block-count, blocks-next, blocks-within, blocks-add, before-start}
+use Rattle.records.proofs.Blocks.{block-count, blocks-next, blocks-within, blocks-add, blocks-front, before-start}
 use Rattle.curves.specs.Fits.{SoundLengths}
 
--- lengths that fit these sizes are as many, and each is 1 to its size
-pub fit-count : (ms ns : List ℕ) → fitting ms ns ≡ true → length ns ≡ length ms
-fit-count [] [] h = refl
-fit-count [] (n ∷ ns) h = absurd (false≢true h)
-fit-count (m ∷ ms) [] h = absurd (false≢true h)
-fit-count (m ∷ ms) (n ∷ ns) h = ap suc (fit-count ms ns (and-true (within 1 m n) _ h .1))
-
-pub fit-at : (ms ns : List ℕ) (k : ℕ) → fitting ms ns ≡ true → k < length ms → (1 ≤ getD ns k 0) × (getD ns k 0 ≤ getD ms k 0)
-fit-at [] ns k h l = absurd (omega (arith, l))
-fit-at (m ∷ ms) [] k h l = absurd (false≢true h)
-fit-at (m ∷ ms) (n ∷ ns) zero h l = inside 1 m n (and-true (within 1 m n) _ h .0)
-fit-at (m ∷ ms) (n ∷ ns) (suc k) h l = fit-at ms ns k (and-true (within 1 m n) _ h .1) (omega (arith, l))
-
--- full blocks fit, since a block has a byte
-full-before : (n x : ℕ) (ms : List ℕ) → 1 ≤ x → fitting ms ms ≡ true → fitting (replicate n x ++ ms) (replicate n x ++ ms) ≡ true
-full-before zero x ms h f = f
-full-before (suc n) x ms h f = rw (le-leb 1 x h, le-leb x x (omega arith)) (full-before n x ms h f)
-
-full-each : (cs : List Curve) → every usableCurve cs ≡ true → fitting (blockSizes cs) (blockSizes cs) ≡ true
-full-each [] h = refl
-full-each (c ∷ cs) h =
-    let w : (usableCurve c ≡ true) × (every usableCurve cs ≡ true) = and-true _ _ h in
-    full-before (c .blocks) (c .size) (blockSizes cs) (curve-rules c (w .0) .0 .0) (full-each cs (w .1))
-
+-- full blocks fit
 pub full-sound : (cs : List Curve) (ns : List ℕ) → usableCurves cs ≡ true → ns ≡ blockSizes cs → SoundLengths cs ns
-unfolding usableCurves
-full-sound cs ns u e = record { fit = rw e (full-each cs (all-at (curveRules cs) u 1)) }
+full-sound cs ns u e = record { fit = rw e (curves-fit cs u) }
 
 -- the walk that makes every length x: the first i are, the others as they were
 module _ (ns₀ : List ℕ) (x : ℕ) where
@@ -85,10 +57,6 @@ sizes-next (c ∷ cs) (suc i) x h e =
     let r : List ℕ = replicate (c .blocks) (c .size) in
     ap (r ++_) (sizes-next cs i x (omega (arith, h)) e) ∙ sym (append-assoc r (blockSizes (take i cs)) (replicate (x .blocks) (x .size)))
 
--- a block's size is one that a length can say
-pub size-fits : (cs : List Curve) (n i : ℕ) (x : Curve) → x ≡ getD cs i blankCurve → i < n → n ≡ length cs → usableCurves cs ≡ true → Fits w16 (x .size)
-size-fits cs n i x e h l u = record { fits = rw e (omega (arith, curve-size cs u i (omega arith) .1)) }
-
 module _ (cs : List Curve) (ns₀ : List ℕ) where
   pub record FillingAll (i first : ℕ) (ns : List ℕ) : Type 0 where
     pub inside : i ≤ length cs
@@ -105,7 +73,7 @@ module _ (cs : List Curve) (ns₀ : List ℕ) where
     all-inside = omega (arith, blocks-within cs n i first x u (omega arith) h e (q .place), block-count cs, q .same)
 
     pub all-front : Fits w64 (first * 2)
-    all-front = record { fits = omega (arith, blocks-within cs n i first x u (omega arith) h e (q .place), blocks-small cs u) }
+    all-front = blocks-front cs n i first x u (omega arith) h e (q .place)
 
     pub all-end-fits : Fits w64 (first + x .blocks)
     all-end-fits = blocks-add cs n i first x u (omega arith) h e (q .place)

@@ -71,6 +71,10 @@ module _ (cs : List Curve) (n i k : ℕ) (x : Curve) (u : usableCurves cs ≡ tr
   pub blocks-add : Fits w64 (k + x .blocks)
   blocks-add = record { fits = omega (arith, blocks-within, blocks-small cs u) }
 
+  -- a length has two bytes
+  pub blocks-front : Fits w64 (k * 2)
+  blocks-front = record { fits = omega (arith, blocks-within, blocks-small cs u) }
+
 pub before-start : 0 ≡ sum []
 unfolding sum
 before-start = refl
@@ -105,23 +109,12 @@ module _ (cs : List Curve) (c : ℕ) (x : Curve) (h : c < length cs) (e : x ≡ 
   placed : (k : ℕ) → place k ≡ length before + k
   placed k = ap (_+ k) (sym (block-count (take c cs)))
 
-  -- the whole curve: where it starts, how many bytes it has, and that its blocks are there
+  -- where it starts
   pub curve-start : start (blockSizes cs) (place 0) ≡ curveBytes (take c cs)
   curve-start =
       ap₂ (λ (i : ℕ) (ns : List ℕ). sum (take i ns)) (placed 0) split
       ∙ block-start before (blockSizes (drop (suc c) cs)) 0 (x .blocks) (x .size) (omega arith)
       ∙ omega (arith, curve-bytes (take c cs))
-
-  pub curve-own : sum (take (x .blocks) (drop (place 0) (blockSizes cs))) ≡ x .size * x .blocks
-  curve-own =
-      ap₂ (λ (i : ℕ) (ns : List ℕ). sum (take (x .blocks) (drop i ns))) (placed 0) split
-      ∙ ap (λ (ns : List ℕ). sum (take (x .blocks) ns)) (drop-append-add before (own ++ blockSizes (drop (suc c) cs)) 0)
-      ∙ ap sum (take-at own (blockSizes (drop (suc c) cs)) (x .blocks) (length-replicate (x .blocks) (x .size)))
-      ∙ sum-replicate (x .blocks) (x .size)
-      ∙ mul-comm (x .blocks) (x .size)
-
-  pub curve-inside : place 0 + x .blocks ≤ length (blockSizes cs)
-  curve-inside = rw (placed 0, split, length-append, length-append, length-replicate) (omega arith)
 
   module _ (k : ℕ) (b : k < x .blocks) where
     -- where it starts: after the curves before it, and k whole blocks

@@ -5,6 +5,8 @@ use mathlib.Core.List.{List, [], _∷_}
 use Prim.Native.Nat.{ℕ, _+_, _*_, _^_, _≤_, _<_}
 use native.Mathlib.Omega.{arith}
 use native.Mathlib.Nat.{mul-le-mul-right}
+use mir.Syntax.{w16}
+use mir.Val.{Fits}
 use lib.Dec.{leb}
 use lib.ListN.{length, getD}
 use borrow.Author.Tests.{leb-true, ltb-true}
@@ -99,6 +101,10 @@ module _ (cs : List Curve) (u : usableCurves cs ≡ true) where
 
     pub curve-size : (1 ≤ getD cs c blankCurve .size) × (getD cs c blankCurve .size ≤ 4096)
     curve-size = curve-rules (getD cs c blankCurve) usable-here .0
+
+-- a block's size is one that a length can say
+pub size-short : (cs : List Curve) (n i : ℕ) (x : Curve) → usableCurves cs ≡ true → n ≡ length cs → i < n → x ≡ getD cs i blankCurve → Fits w16 (x .size)
+size-short cs n i x u l h e = record { fits = rw e (omega (arith, curve-size cs u i (omega arith))) }
 
 module _ (fs : List Function) (u : usableFunctions fs ≡ true) where
   pub functions-most : length fs ≤ 16

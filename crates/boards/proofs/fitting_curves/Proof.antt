@@ -2,7 +2,8 @@
 use Prim.Native.Nat.{_-_}
 use borrow.Author.Needs.{needs}
 use Rattle.records.specs.Lending.{curvesOf}
-use Rattle.boards.proofs.Lengths.{Fitted, fitted-start, fitted-add, fitted-inside, fitted-bytes, fitted-short, fitted-next, fitted-stop, fitted-end}
+use Rattle.records.proofs.Sound.{size-short}
+use Rattle.boards.proofs.Lengths.{Fitted, fitted-start, fitted-add, fitted-inside, fitted-front, fitted-next, fitted-stop, fitted-end}
 use Rattle.boards.proofs.fitting_curves.Statement.{statement}
 use Rattle.boards.proofs.fitting_curves.Tie as tie
 
@@ -21,10 +22,10 @@ fitting-curves-spec =
     (λ c κs. search needs)
     (λ c. search (fitted-start, needs))
     (λ c κs. search needs)
-    (λ c. search (fitted-short, needs))
+    (λ c. search (size-short, needs))
     (λ c. search needs)
     (λ c. search (fitted-add, needs))
-    (λ c. search (fitted-bytes, needs))
+    (λ c. search (fitted-front, needs))
     (λ c. search needs)
     (λ c. search needs)
     (λ c. search (fitted-inside, needs))

@@ -2,7 +2,8 @@
 use Prim.Native.Nat.{_-_}
 use borrow.Author.Needs.{needs}
 use Rattle.records.specs.Lending.{curvesOf}
-use Rattle.curves.proofs.Lengths.{FillingAll, all-start, all-end-fits, all-front, all-inside, size-fits, all-next, all-end}
+use Rattle.records.proofs.Sound.{size-short}
+use Rattle.curves.proofs.Lengths.{FillingAll, all-start, all-end-fits, all-front, all-inside, all-next, all-end}
 use Rattle.curves.proofs.fill_all.Statement.{statement}
 use Rattle.curves.proofs.fill_all.Tie as tie
 
@@ -17,7 +18,7 @@ cast-fill : tie.Need-cast-fill Inv-loop μ-loop
 cast-fill c =
     let l = c .before .before .before in
     let k = l .before .before .before in
-    size-fits _ _ _ _ (l .curve-at .ensures) (l .before .loop-test .taken) (k .curve-count .ensures) (k .before .before .before .pre .0)
+    size-short _ _ _ _ (k .before .before .before .pre .0) (k .curve-count .ensures) (l .before .loop-test .taken) (l .curve-at .ensures)
 
 pub fill-all-spec : {M : Type 1} → statement M
 fill-all-spec =
