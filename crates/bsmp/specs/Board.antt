@@ -3,7 +3,7 @@ use mathlib.Core.Bool.{Bool, true, false, cond, not, _&&_}
 use mathlib.Core.List.{List, [], _∷_, map}
 use Prim.Native.Nat.{ℕ, _+_, _-_, _*_, _^_}
 use lib.Dec.{leb, ltb, eqb}
-use lib.ListN.{length, take, drop, getD, replicate}
+use lib.ListN.{length, take, getD, replicate}
 use Rattle.md5.specs.Md5.{digest}
 use Rattle.bsmp.specs.Base.{sum, upFrom, all, every, some, only, join, same, within, has, marksOf, Test, test}
 use Rattle.bsmp.specs.Codes.{kindOf}

@@ -5,9 +5,8 @@ use mathlib.Core.List.{List, [], _∷_, _++_, map, map-append, append-assoc}
 use Prim.Native.Nat.{ℕ, suc, _+_, _*_, _≤_, _<_}
 use native.Mathlib.Omega.{arith}
 use native.Mathlib.Numerals.{add-one}
-use native.Mathlib.Nat.{mul-comm}
 use lib.ListN.{length, take, drop, getD, replicate, length-append, length-replicate, getD-replicate, take-append-drop, List·getD-append}
-use lib.Seq.{take-at, take-suc, split-at, drop-append-add, getD-append-add}
+use lib.Seq.{take-suc, split-at, getD-append-add}
 use mir.Syntax.{w64}
 use mir.Val.{Fits}
 use Rattle.bsmp.specs.Base.{sum}
@@ -16,7 +15,7 @@ use Rattle.bsmp.specs.Store.{start}
 use Rattle.bsmp.specs.declared.Curve.{Curve}
 use Rattle.bsmp.proofs.Store.{curve-bytes}
 use Rattle.lists.proofs.Sum.{total-append, total-within}
-use Rattle.lists.proofs.Blocks.{sum-replicate, block-start}
+use Rattle.lists.proofs.Blocks.{block-start}
 use Rattle.records.specs.Lending.{curveBytes, curveBlocks, startOf}
 use Rattle.records.proofs.Sound.{curves-small, blocks-small}
 
