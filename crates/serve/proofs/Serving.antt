@@ -45,15 +45,30 @@ module _ (l : Layout) (gs m : List ℕ) (k : Command) (v : Check) where
   pub judged-named : Judged l gs m k v → Named k v m
   judged-named h = record { command = h .command; names = run-named l gs m k v (h .judgement) (h .command) }
 
-module _ (l : Layout) (m : List ℕ) (k : Command) (v : Check) (x : Lent) where
-  pub carried-pass : (g : Regroup) (y : Lent) → Judged l (x .groups) m k v → v ≡ Pass
-      → ChangedBy l x (line l (x .groups) (midOf 3 (length m - 3) m) k .change) g y → CarriedOut l m v x g y
-  unfolding stateAfter
-  carried-pass g y j e h = record { leaves = rw e (ChangedBy.leaves (rw (j .command, mid-rest 3 m) at h)); fit = h .fit }
+-- carried out: the board is as sound after a change of its stores
+module _ (l : Layout) (m : List ℕ) (k : Command) (v : Check) (vs bs ls ds gs : List ℕ) (h : SoundBoard l (lent vs bs ls ds gs)) where
+  abbrev x : Lent
+  x = lent vs bs ls ds gs
 
-  pub carried-fail : (e : WireError) → SoundBoard l x → v ≡ Fail e → CarriedOut l m v x Keep x
+  pub carried-pass : (g : Regroup) (vs′ bs′ ls′ ds′ : List ℕ) → length vs′ ≡ length vs → length bs′ ≡ length bs → length ds′ ≡ length ds → Judged l gs m k v → v ≡ Pass
+      → ChangedBy l x (line l gs (midOf 3 (length m - 3) m) k .change) g (lent vs′ bs′ ls′ ds′ gs) → CarriedOut l m v x g (lent vs′ bs′ ls′ ds′ gs)
   unfolding stateAfter
-  carried-fail e z h = record { leaves = rw h (all-kept l x); fit = z .lengths .fit }
+  carried-pass g vs′ bs′ ls′ ds′ a b d j e w = record {
+    leaves = rw e (ChangedBy.leaves (rw (j .command, mid-rest 3 m) at w));
+    sound = record {
+      variables = sound-kept (l .sizes) vs vs′ (h .variables) a;
+      sizes = h .sizes;
+      curves = record { usable = h .curves .usable; exact = b ∙ h .curves .exact };
+      lengths = record { fit = w .fit };
+      sums = record { exact = d ∙ h .sums .exact };
+      functions = h .functions;
+      groups = h .groups;
+    };
+  }
+
+  pub carried-fail : (e : WireError) → v ≡ Fail e → CarriedOut l m v x Keep x
+  unfolding stateAfter
+  carried-fail e q = record { leaves = rw q (all-kept l x); sound = h }
 
 -- what is said to it, where an answer is due
 module _ (l : Layout) (gs m : List ℕ) (v : Check) (s : State) (r : List ℕ) (at : ℕ) (t : Spoken) where
@@ -79,20 +94,6 @@ said-alike : (l : Line) (v : Check) (s : State) (gs : List ℕ) → said l v s �
 unfolding said
 said-alike l (Fail x) s gs = refl
 said-alike l Pass s gs = spoken-alike (l .answer) s gs
-
--- the board is as sound after a change of its stores
-pub still-sound : (l : Layout) (vs bs ls ds gs vs′ bs′ ls′ ds′ m : List ℕ) (v : Check) (g : Regroup) → SoundBoard l (lent vs bs ls ds gs)
-    → length vs′ ≡ length vs → length bs′ ≡ length bs → length ds′ ≡ length ds → CarriedOut l m v (lent vs bs ls ds gs) g (lent vs′ bs′ ls′ ds′ gs)
-    → SoundBoard l (lent vs′ bs′ ls′ ds′ gs)
-still-sound l vs bs ls ds gs vs′ bs′ ls′ ds′ m v g h e f d w = record {
-  variables = sound-kept (l .sizes) vs vs′ (h .variables) e;
-  sizes = h .sizes;
-  curves = record { usable = h .curves .usable; exact = f ∙ h .curves .exact };
-  lengths = record { fit = w .fit };
-  sums = record { exact = d ∙ h .sums .exact };
-  functions = h .functions;
-  groups = h .groups;
-}
 
 -- what is said where an answer is due, and where none is
 module _ (due : Bool) (x : Said) (r : List ℕ) (at : ℕ) (s : Spoken) (r′ : List ℕ) where

@@ -5,7 +5,7 @@ use mathlib.Core.List.{List}
 use Prim.Native.Nat.{ℕ, _≤_, _<_}
 use lib.ListN.{length, drop}
 use Rattle.bsmp.specs.Base.{every, byteAt}
-use Rattle.bsmp.specs.Board.{Layout, State, blockSizes, fitting, isType}
+use Rattle.bsmp.specs.Board.{Layout, State, isType}
 use Rattle.bsmp.specs.Codes.{commandOf}
 use Rattle.bsmp.specs.Message.{line, asked, said, spoken, stateAfter, handled}
 use Rattle.bsmp.specs.Store.{Lent, held}
@@ -15,7 +15,7 @@ use Rattle.bsmp.specs.declared.Command.the-variants.{MaskVariable, MaskGroup, W
 use Rattle.bsmp.specs.declared.Check.{Check}
 use Rattle.bsmp.specs.declared.Check.the-variants.{Pass}
 use Rattle.records.specs.Lending.{writableMarks}
-use Rattle.judging.specs.Judging.{lentLayout, Judgement}
+use Rattle.judging.specs.Judging.{lentLayout, SoundBoard, Judgement}
 use Rattle.changes.specs.Changes.{LeftAs}
 use Rattle.changes.specs.declared.Regroup.{Regroup}
 use Rattle.answers.specs.Answers.{spokenOf, Spoke}
@@ -64,10 +64,10 @@ pub record Judged (l : Layout) (gs m : List ℕ) (k : Command) (v : Check) : Typ
   pub command : k ≡ commandOf (byteAt m 0)
   pub judgement : Judgement l gs m v
 
--- a message carried out: x was lent, y is left of it, with lengths that still fit, and g becomes of the made groups
+-- a message carried out: x was lent, y is left of it, as sound as x was, and g becomes of the made groups
 pub record CarriedOut (l : Layout) (m : List ℕ) (v : Check) (x : Lent) (g : Regroup) (y : Lent) : Type 0 where
   pub leaves : LeftAs l (stateAfter (asked l (x .groups) m) v (held l x)) g y
-  pub fit : fitting (blockSizes (l .curves)) (y .lengths) ≡ true
+  pub sound : SoundBoard l y
 
 -- what is said to a command, and to a message, where no answer is due, on any board
 pub record Quiet (k : Command) (m : List ℕ) (s : Spoken) : Type 0 where

@@ -10,4 +10,4 @@ carry-out-spec =
     (tie.spec
     (λ c. search needs) (λ c. search (judged-whole, needs)) (λ c. search (judged-whole, needs)) (λ c. search needs)
     (λ c κs. (search needs, search (judged-passes, needs))) (λ c. search needs) (λ c. search needs) (λ c. search needs) (λ c. search needs)
-    (λ c. search needs) (λ c. search (carried-pass, needs)) (λ c. let sound = c .before .before .before .before .before .before .before .before .before .before .before .pre .0 in search (carried-fail, sound, needs)))
+    (λ c. search needs) (λ c. search (carried-pass, needs)) (λ c. search (carried-fail, needs)))
