@@ -8,4 +8,5 @@ pub packet-spec : {M : Type 1} → statement M
 packet-spec =
     tie.close
     (tie.spec (λ c κs. search needs) (λ c κs. search needs) (λ c. search needs) (λ c. search needs) (λ c. search needs)
-    (λ c. search needs) (λ c. search needs) (λ c. search (packet-plain, needs)))
+    (λ c. search needs) (λ c. search needs)
+    (λ c. packet-plain _ _ _ _ _ _ _ _ _ (c .before .before .before .before .before .before .before .before .before .before .before .packet .ensures) (c .outcome-of .ensures)))
