@@ -3,7 +3,7 @@ use cruachvel::{md5, Outcome, SUM_SIZE};
 use suite::boards::usable;
 use suite::faults::faults;
 use suite::lent::{full_lengths, members, Lent};
-use suite::packets::{message, packet, Drawer};
+use suite::packets::{message, packet, Draft, Drawer};
 use suite::random::Random;
 
 const BOARDS: usize = 400;
@@ -27,6 +27,30 @@ fn small_board(random: &mut Random) -> Lent {
     lent
 }
 
+fn drawn(random: &mut Random, lent: &Lent) -> (Vec<u8>, Draft) {
+    let groups = &lent.groups;
+    Drawer {
+        random,
+        lent,
+        groups,
+    }
+    .packet()
+}
+
+// Packets on small boards: each board before and after it, and the packet with its draft.
+fn for_each_packet(seed: u64, mut look: impl FnMut(&Lent, &Lent, &[u8], &Draft)) {
+    let mut random = Random::new(seed);
+    for _ in 0..BOARDS {
+        let mut lent = small_board(&mut random);
+        for _ in 0..PACKETS {
+            let before = lent.clone();
+            let (request, draft) = drawn(&mut random, &before);
+            lent.packet(draft.busy, &request, &mut [0; 4104]);
+            look(&before, &lent, &request, &draft);
+        }
+    }
+}
+
 fn judge(outcome: Outcome) -> (End, usize) {
     match outcome {
         Outcome::Refused(_) => (End::Refused, 0),
@@ -40,13 +64,7 @@ fn judge(outcome: Outcome) -> (End, usize) {
 // One packet; its destination decides whether it may be answered.
 fn obeys(random: &mut Random, lent: &mut Lent) -> End {
     let before = lent.clone();
-    let groups = &before.groups;
-    let (request, draft) = Drawer {
-        random,
-        lent: &before,
-        groups,
-    }
-    .packet();
+    let (request, draft) = drawn(random, &before);
     let mut reply = [0x5C; 4104];
     let (end, length) = judge(lent.packet(draft.busy, &request, &mut reply));
     let told = || format!("{:02X?} ended in {:?}", draft, end);
@@ -175,28 +193,15 @@ fn renewed(before: &Lent, curves: impl Iterator<Item = usize>) -> Lent {
 // Block writes among the packets leave sums stale, answered or not.
 #[test]
 fn packets_change_sums_by_42_alone_and_then_nothing_else() {
-    let mut random = Random::new(26);
     let mut renewals = 0;
-    for _ in 0..BOARDS {
-        let mut lent = small_board(&mut random);
-        for _ in 0..PACKETS {
-            let before = lent.clone();
-            let groups = &before.groups;
-            let (request, draft) = Drawer {
-                random: &mut random,
-                lent: &before,
-                groups,
-            }
-            .packet();
-            lent.packet(draft.busy, &request, &mut [0; 4104]);
-            if lent.sums != before.sums {
-                assert_eq!(request[1..4], [0x42, 0, 1], "{:02X?}", draft);
-                let curve = usize::from(request[4]);
-                assert_eq!(lent, renewed(&before, std::iter::once(curve)));
-                renewals += 1;
-            }
+    for_each_packet(26, |before, after, request, draft| {
+        if after.sums != before.sums {
+            assert_eq!(request[1..4], [0x42, 0, 1], "{:02X?}", draft);
+            let curve = usize::from(request[4]);
+            assert_eq!(*after, renewed(before, std::iter::once(curve)));
+            renewals += 1;
         }
-    }
+    });
     assert!(
         renewals > BOARDS / 10,
         "only {} sums were renewed",
@@ -307,13 +312,7 @@ fn stale_bytes_are_never_shown_but_by_a_fresh_board() {
     for _ in 0..BOARDS {
         let (mut left, mut right) = stale_twins(&mut random);
         for _ in 0..PACKETS {
-            let groups = &left.groups;
-            let (request, draft) = Drawer {
-                random: &mut random,
-                lent: &left,
-                groups,
-            }
-            .packet();
+            let (request, draft) = drawn(&mut random, &left);
             let (mut one, mut other) = ([0; 4104], [0; 4104]);
             let ended = left.packet(draft.busy, &request, &mut one);
             assert_eq!(ended, right.packet(draft.busy, &request, &mut other));
@@ -329,34 +328,21 @@ fn stale_bytes_are_never_shown_but_by_a_fresh_board() {
 
 #[test]
 fn packets_change_lengths_by_41_alone_and_keep_them_in_range() {
-    let mut random = Random::new(31);
     let mut set = 0;
-    for _ in 0..BOARDS {
-        let mut lent = small_board(&mut random);
-        for _ in 0..PACKETS {
-            let before = lent.clone();
-            let groups = &before.groups;
-            let (request, draft) = Drawer {
-                random: &mut random,
-                lent: &before,
-                groups,
-            }
-            .packet();
-            lent.packet(draft.busy, &request, &mut [0; 4104]);
-            let full = full_lengths(&lent.curves);
-            let mut pairs = lent.lengths.iter().zip(&full);
-            assert!(pairs.all(|(length, full)| (1..=*full).contains(length)));
-            if lent.lengths != before.lengths {
-                assert_eq!(request[1], 0x41, "{:02X?}", draft);
-                let block = usize::from(u16::from_be_bytes([request[5], request[6]]));
-                let place = lent.length_place(request[4].into()).start + block;
-                let mut expected = before.lengths.clone();
-                expected[place] = (request.len() - 8) as u16;
-                assert_eq!(lent.lengths, expected, "{:02X?}", draft);
-                set += 1;
-            }
+    for_each_packet(31, |before, after, request, draft| {
+        let full = full_lengths(&after.curves);
+        let mut pairs = after.lengths.iter().zip(&full);
+        assert!(pairs.all(|(length, full)| (1..=*full).contains(length)));
+        if after.lengths != before.lengths {
+            assert_eq!(request[1], 0x41, "{:02X?}", draft);
+            let block = usize::from(u16::from_be_bytes([request[5], request[6]]));
+            let place = after.length_place(request[4].into()).start + block;
+            let mut expected = before.lengths.clone();
+            expected[place] = (request.len() - 8) as u16;
+            assert_eq!(after.lengths, expected, "{:02X?}", draft);
+            set += 1;
         }
-    }
+    });
     assert!(set > BOARDS / 10, "only {} lengths were set", set);
 }
 

@@ -1,6 +1,7 @@
 //! Boards of many sorts of curves, and what the line reads of them.
 use crate::bench::{variable, Bench};
 use core::ops::Range;
+use suite::second::{Outcome, Ran};
 
 /// Curves of different block sizes and counts, read-only ones first, last and between.
 pub const CURVES: [u32; 15] = [0, 4, 2, 1, 1, 55, 0, 70, 3, 1, 257, 2, 0, 8, 7];
@@ -53,4 +54,17 @@ pub fn held(bench: &mut Bench, curve: u8) -> Vec<u8> {
     let blocks = bench.curves[3 * usize::from(curve) + 2] as usize;
     let read = |number| block(bench, curve, number);
     (0..blocks).flat_map(read).collect()
+}
+
+/// These packets, and results and a store that would go well on board A, are refused with 1 and change nothing.
+pub fn all_refused(bench: &mut Bench, requests: &[Vec<u8>]) {
+    let before = bench.state();
+    for request in requests {
+        assert_eq!(bench.refused(request), 1);
+    }
+    let refused = Outcome::Refused(1);
+    assert_eq!(bench.result(0, true, Ran::Well, &[1, 2]), refused);
+    assert_eq!(bench.result(0, false, Ran::Failed(1), &[]), refused);
+    assert_eq!(bench.store(1, &[9]), Err(1));
+    assert_eq!(bench.state(), before);
 }

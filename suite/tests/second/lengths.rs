@@ -1,6 +1,6 @@
 //! Blocks that aren't full, by 2026-03: a write sets a block's length, a read goes by it, and so do sums.
 use crate::bench::{full, hex, wire, Bench};
-use crate::curves::{block, board, boards, count, front, held, sum_place, CURVES};
+use crate::curves::{all_refused, block, board, boards, count, front, held, sum_place, CURVES};
 use suite::random::Random;
 use suite::second::{md5, Outcome, Ran};
 
@@ -342,7 +342,6 @@ fn with_lengths_that_are_wrong_what_would_go_well_or_be_refused_later_is_refusal
     ] {
         let mut bench = Bench::a();
         bench.lengths = lengths;
-        let before = bench.state();
         let requests = [
             wire(5, READ, &[0, 0, 0]),
             wire(5, WRITE, &[0, 0, 0, 9]),
@@ -356,14 +355,7 @@ fn with_lengths_that_are_wrong_what_would_go_well_or_be_refused_later_is_refusal
             wire(6, 0x00, &[]),
             vec![],
         ];
-        for request in requests {
-            assert_eq!(bench.refused(&request), 1);
-        }
-        let refused = Outcome::Refused(1);
-        assert_eq!(bench.result(0, true, Ran::Well, &[1, 2]), refused);
-        assert_eq!(bench.result(0, false, Ran::Failed(1), &[]), refused);
-        assert_eq!(bench.store(1, &[9]), Err(1));
-        assert_eq!(bench.state(), before);
+        all_refused(&mut bench, &requests);
     }
 }
 

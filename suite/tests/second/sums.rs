@@ -1,7 +1,7 @@
 //! The curves' sums, by 2026-02: 0A reads them, 42 renews them, a fresh board works them out.
 //! What they are of where blocks are not full is for page `lengths`.
 use crate::bench::{hex, wire, Bench};
-use crate::curves::{board, boards, count, held, sum_place, CURVES};
+use crate::curves::{all_refused, board, boards, count, held, sum_place, CURVES};
 use suite::random::Random;
 use suite::second::{md5, Groups, Outcome, Ran};
 use suite::whatif::bytes::summed;
@@ -290,13 +290,7 @@ fn with_sums_of_another_length_what_would_go_well_or_be_refused_later_is_refusal
             wire(6, 0x00, &[]),
             vec![],
         ];
-        for request in requests {
-            assert_eq!(bench.refused(&request), 1);
-        }
-        let refused = Outcome::Refused(1);
-        assert_eq!(bench.result(0, true, Ran::Well, &[1, 2]), refused);
-        assert_eq!(bench.result(0, false, Ran::Failed(1), &[]), refused);
-        assert_eq!(bench.store(1, &[9]), Err(1));
+        all_refused(&mut bench, &requests);
         assert_eq!(bench.fresh(), Err(1));
         assert_eq!(bench.state(), before);
     }
