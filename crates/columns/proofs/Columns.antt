@@ -2,12 +2,12 @@
 use mathlib.Core.Path.{_≡_, refl, sym, _∙_, ap, subst}
 use mathlib.Core.Logic.{inl, inr}
 use mathlib.Core.List.{List}
-use Prim.Native.Nat.{ℕ, zero, suc, min, _<_, _≤_}
-use native.Mathlib.Nat.{not-suc-le-zero, le-of-suc-le-suc, eq-or-lt-of-le}
+use Prim.Native.Nat.{ℕ, zero, suc, min, _+_, _<_, _≤_}
+use native.Mathlib.Nat.{add-zero, not-suc-le-zero, le-of-suc-le-suc, eq-or-lt-of-le}
 use native.Mathlib.Omega.{arith}
 use native.Mathlib.Decide.{decLt}
 use lib.ListN.{length, getD, set, length-set}
-use lib.Seq.{getD-set-same, getD-set-other, ext-getD}
+use lib.Seq.{set-comm, getD-set-same, getD-set-other, ext-getD}
 use Rattle.bsmp.specs.declared.Variable.{Variable}
 use Rattle.records.specs.declared.Records.{Records}
 use Rattle.records.specs.Lending.{recordAt, recordsBy, recordsOf}
@@ -24,7 +24,43 @@ pub columns-whole : (r : Records) (vs : List Variable) (k : ℕ)
     → recordsBy (r .count) (columnsTo r vs k .writable) (columnsTo r vs k .sizes) (columnsTo r vs k .kinds) ≡ columnsTo r vs k
 columns-whole r vs k = ap (λ (n : ℕ). recordsBy n (columnsTo r vs k .writable) (columnsTo r vs k .sizes) (columnsTo r vs k .kinds)) (sym (to-count r vs k))
 
--- over columns of zeros
+-- ---- records that are stored the last first
+swap : (r : Records) (i j : ℕ) (u v : Variable) → (j ≡ i → ⊥) → withRecord (withRecord r j v) i u ≡ withRecord (withRecord r i u) j v
+swap r i j u v h =
+    let w = set-comm (r .writable) j i (v .writable) (u .writable) h in
+    let s = set-comm (r .sizes) j i (v .size) (u .size) h in
+    let t = set-comm (r .kinds) j i (v .kind) (u .kind) h in
+    λ k. record { count = r .count; writable = w k; sizes = s k; kinds = t k }
+
+-- k of them, the i-th last
+abbrev backwards : Records → List Variable → (i k : ℕ) → Records
+backwards r vs i zero = r
+backwards r vs i (suc k) = withRecord (backwards r vs (suc i) k) i (variableAt vs i)
+
+backwards-last : (r : Records) (vs : List Variable) (i k : ℕ) → backwards r vs i (suc k) ≡ withRecord (backwards r vs i k) (i + k) (variableAt vs (i + k))
+backwards-last r vs i zero = ap (λ (j : ℕ). withRecord r j (variableAt vs j)) (sym (add-zero i))
+backwards-last r vs i (suc k) =
+    let o : suc i + k ≡ i + suc k = omega arith in
+    ap (λ (t : Records). withRecord t i (variableAt vs i)) (rw o at (backwards-last r vs (suc i) k)) ∙ swap (backwards r vs (suc i) k) i (i + suc k) (variableAt vs i) (variableAt vs (i + suc k)) (λ e. omega (arith, e))
+
+-- after the first i it comes to the same
+backwards-on : (r : Records) (vs : List Variable) (i k : ℕ) → backwards (columnsTo r vs i) vs i k ≡ columnsTo r vs (i + k)
+unfolding columnsTo
+backwards-on r vs i zero = ap (columnsTo r vs) (sym (add-zero i))
+backwards-on r vs i (suc k) =
+    let o : i + suc k ≡ suc (i + k) = omega arith in
+    rw o (backwards-last (columnsTo r vs i) vs i k ∙ ap (λ (t : Records). withRecord t (i + k) (variableAt vs (i + k))) (backwards-on r vs i k))
+
+-- four of them
+pub four-more : (r : Records) (vs : List Variable) (i : ℕ)
+    → withRecord (withRecord (withRecord (withRecord (columnsTo r vs i) (i + 3) (variableAt vs (i + 3))) (i + 2) (variableAt vs (i + 2))) (i + 1) (variableAt vs (i + 1))) i (variableAt vs i) ≡ columnsTo r vs (i + 4)
+four-more r vs i =
+    let a : i + 1 ≡ suc i = omega arith in
+    let b : i + 2 ≡ suc (suc i) = omega arith in
+    let c : i + 3 ≡ suc (suc (suc i)) = omega arith in
+    rw (a, b, c) (backwards-on r vs i 4)
+
+-- ---- over columns of zeros
 abbrev to : List Variable → ℕ → Records
 to vs k = columnsTo (recordsBy (length vs) zeros zeros zeros) vs k
 

@@ -16,6 +16,7 @@ fn stored(count: usize) -> usize
 }
 
 // The lent records stored into columns in place, in one walk, and how many there are. Of more than 64 the rest is counted alone, and so refused by the work.
+// Each turn stores four of them, the last first, so that the bound of one holds for the others too; what is left of them comes one by one.
 pub fn take(
     variables: &[Variable],
     writable: &mut [u8; 64],
@@ -27,6 +28,28 @@ pub fn take(
 {
     let n = stored(variables.len());
     let mut i: usize = 0;
+    while i + 3 < n {
+        let fourth = i + 3;
+        let d = variables[fourth];
+        writable[fourth] = d.writable;
+        sizes[fourth] = d.size;
+        kinds[fourth] = d.kind;
+        let third = i + 2;
+        let c = variables[third];
+        writable[third] = c.writable;
+        sizes[third] = c.size;
+        kinds[third] = c.kind;
+        let second = i + 1;
+        let b = variables[second];
+        writable[second] = b.writable;
+        sizes[second] = b.size;
+        kinds[second] = b.kind;
+        let a = variables[i];
+        writable[i] = a.writable;
+        sizes[i] = a.size;
+        kinds[i] = a.kind;
+        i += 4;
+    }
     while i < n {
         let v = variables[i];
         writable[i] = v.writable;
