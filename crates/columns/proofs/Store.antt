@@ -1,4 +1,7 @@
 -- One record of a lent slice, stored at its number into three columns whose borrows are open: the steps of its MIR, wherever in a body they stand. The slice is looked into for the record and shut again, and the record's bytes are stored in place.
+--     storing      the code, by the numbers of its locals, and what follows it
+--     Before       what it needs, with the columns t; the same is there after it, with the record stored
+--     stores       that it does so
 -- Assumes `Given`.
 use mathlib.Core.Path.{_≡_, refl, sym, _∙_, ap, subst}
 use Prim.Native.Nat.{ℕ, _*_, _<_, _^_}
@@ -127,6 +130,7 @@ module _ {M : Type 1} (𝓤 : URA M) (H : Heap 𝓤) (A : Atoms 𝓤) (W : Given
   Free l Γ = ‵ (froom R′.mir (l .value) 0) ∷ ‵ (froom tyPtr (l .spot) 0) ∷ ‵ (froom tyPtr (l .writable) 0) ∷ ‵ (froom tyPtr (l .writable-byte) 0)
       ∷ ‵ (froom tyPtr (l .sizes) 0) ∷ ‵ (froom tyPtr (l .sizes-byte) 0) ∷ ‵ (froom tyPtr (l .kinds) 0) ∷ ‵ (froom tyPtr (l .kinds-byte) 0) ∷ Γ
 
+  -- all that one record needs, with the columns t and its number i
   abbrev pub Before : Slots → Records → ℕ → List (Item 𝓤) → List (Item 𝓤)
   Before l t i Γ = Common l t (‵ (fat fullShare word (l .index) 0 (vint w64 i)) ∷ Free l Γ)
 
@@ -142,10 +146,11 @@ module _ {M : Type 1} (𝓤 : URA M) (H : Heap 𝓤) (A : Atoms 𝓤) (W : Given
     abbrev l : Slots
     l = blocksOf E n
 
+    -- a place in a local, known by where that stands
     found : {Γ : List (Item 𝓤)} {i : ℕ} {st : List PStep} {sp sp′ : Spot 𝓤 H} → spotOf 𝓤 H E i ≡ sp → Walks (Go {0}) W Γ E sp st sp′ → Finds (Go {0}) W Γ E (place i st) sp′
     found {Γ} {i} {st} {sp} {sp′} e w = from ! (subst (λ (s : Spot 𝓤 H). Walks (Go {0}) W Γ E s st sp′) (sym e) w)
 
-    -- the k-th of them
+    -- the k-th of them: the slice, the three references, then as in `Slots`
     at : (k : ℕ) → getD (spots E n) k (word, 0, 0) ≡ getD (places l) k (word, 0, 0)
     at k = ap (λ (sps : List (Spot 𝓤 H)). getD sps k (word, 0, 0)) typed
 
