@@ -93,8 +93,9 @@ token l = flft (lft l) fullShare
 abbrev pub ref : ℕ → Loan → List ℕ → RefT (List ℕ)
 ref b l xs = record { ptr = (b, 0); name = l .name; now = xs }
 
-abbrev cell : ℕ → List ℕ → Fml
-cell b xs = fat fullShare columnTy b 0 (columnVal xs)
+-- the column xs where it lies
+abbrev pub cell : (b o : ℕ) → List ℕ → Fml
+cell b o xs = fat fullShare columnTy b o (columnVal xs)
 
 abbrev lies : ℕ → List ℕ → Fml
 lies b xs = partAt Column fullShare xs b 0
@@ -120,13 +121,13 @@ module _ {M : Type 1} (𝓤 : URA M) (H : Heap 𝓤) (A : Atoms 𝓤) (W : Given
   pub blank-typed : Holds (hasTy columnTy (columnVal zeros)) × WT (columnVal zeros)
   blank-typed = array-lawful 𝓤 H A W u8 (uint-lawful 𝓤 H A W w8) 64 .typed zeros (columnVal zeros ∷ []) blank .0
 
-  packs : (b : ℕ) (xs : List ℕ) → IsColumn xs → ent 𝓤 (sem 𝓤 H A (cell b xs)) (sem 𝓤 H A (lies b xs))
+  packs : (b : ℕ) (xs : List ℕ) → IsColumn xs → ent 𝓤 (sem 𝓤 H A (cell b 0 xs)) (sem 𝓤 H A (lies b xs))
   unfolding partOf
   packs b xs is =
-      qed W (‵ (cell b xs) ∷ []) ∵ owned ! Column (Is Column) (array-makes 𝓤 H A W u8 (uint-makes 𝓤 H A W w8) 64) xs _ is $ move ! (1 ∷ 0 ∷ []) $ fjoin ! $
+      qed W (‵ (cell b 0 xs) ∷ []) ∵ owned ! Column (Is Column) (array-makes 𝓤 H A W u8 (uint-makes 𝓤 H A W w8) 64) xs _ is $ move ! (1 ∷ 0 ∷ []) $ fjoin ! $
       fpack ! (List Val) (λ us. fsep (cellAt fullShare (Column .mir) us b 0) (Column .own xs us)) (columnVal xs ∷ []) $ done !
 
-  unpacks : (b : ℕ) (xs : List ℕ) → ent 𝓤 (sem 𝓤 H A (lies b xs)) (guard 𝓤 (IsColumn xs) (sem 𝓤 H A (cell b xs)))
+  unpacks : (b : ℕ) (xs : List ℕ) → ent 𝓤 (sem 𝓤 H A (lies b xs)) (guard 𝓤 (IsColumn xs) (sem 𝓤 H A (cell b 0 xs)))
   unfolding partOf
   unpacks b xs =
       qed W (‵ (lies b xs) ∷ []) ∵ fpick ! (λ us. fsplit ! $ move ! (1 ∷ []) $ facts ! Column (Is Column) (shows 𝓤 H A Column) xs us (λ is.
@@ -137,7 +138,7 @@ module _ {M : Type 1} (𝓤 : URA M) (H : Heap 𝓤) (A : Atoms 𝓤) (W : Given
 
   module _ (bs : Places) where
     abbrev pub Cells : Records → Item 𝓤
-    Cells t = ‵ (cell (bs .writable) (t .writable)) ⊛ ‵ (cell (bs .sizes) (t .sizes)) ⊛ ‵ (cell (bs .kinds) (t .kinds))
+    Cells t = ‵ (cell (bs .writable) 0 (t .writable)) ⊛ ‵ (cell (bs .sizes) 0 (t .sizes)) ⊛ ‵ (cell (bs .kinds) 0 (t .kinds))
 
     abbrev pub Tokens : Loans → Item 𝓤
     Tokens ls = ‵ (token (ls .writable)) ⊛ ‵ (token (ls .sizes)) ⊛ ‵ (token (ls .kinds))
@@ -171,11 +172,11 @@ module _ {M : Type 1} (𝓤 : URA M) (H : Heap 𝓤) (A : Atoms 𝓤) (W : Given
           move ! (3 ∷ []) $ split ! $ move ! (1 ∷ []) $ split ! $
           -- [sizes, kinds, writable: kept; kinds, sizes, writable: over]
           move ! (5 ∷ 2 ∷ []) $ use2 W (later (‵ (lies (bs .writable) (t .writable)))) (back (bs .writable) (ls .writable) (t .writable)) $ await ! tt $
-          use1 W (given (IsColumn (t .writable)) (‵ (cell (bs .writable) (t .writable)))) (unpacks (bs .writable) (t .writable)) $ learn ! (λ w.
+          use1 W (given (IsColumn (t .writable)) (‵ (cell (bs .writable) 0 (t .writable)))) (unpacks (bs .writable) (t .writable)) $ learn ! (λ w.
           move ! (4 ∷ 1 ∷ []) $ use2 W (later (‵ (lies (bs .sizes) (t .sizes)))) (back (bs .sizes) (ls .sizes) (t .sizes)) $ await ! tt $
-          use1 W (given (IsColumn (t .sizes)) (‵ (cell (bs .sizes) (t .sizes)))) (unpacks (bs .sizes) (t .sizes)) $ learn ! (λ s.
+          use1 W (given (IsColumn (t .sizes)) (‵ (cell (bs .sizes) 0 (t .sizes)))) (unpacks (bs .sizes) (t .sizes)) $ learn ! (λ s.
           move ! (3 ∷ 2 ∷ []) $ use2 W (later (‵ (lies (bs .kinds) (t .kinds)))) (back (bs .kinds) (ls .kinds) (t .kinds)) $ await ! tt $
-          use1 W (given (IsColumn (t .kinds)) (‵ (cell (bs .kinds) (t .kinds)))) (unpacks (bs .kinds) (t .kinds)) $ learn ! (λ k.
+          use1 W (given (IsColumn (t .kinds)) (‵ (cell (bs .kinds) 0 (t .kinds)))) (unpacks (bs .kinds) (t .kinds)) $ learn ! (λ k.
           at-once ! $ check ! (w, (s, k)) $ move ! (2 ∷ 1 ∷ 0 ∷ []) $ done !)))
 
     pub lends-mut : (t : Records) → AreColumns t → ent 𝓤 (mean 𝓤 H A (Cells t)) (H .⇛ (ex 𝓤 (λ (ls : Loans). mean 𝓤 H A (Tokens ls ⊛ Each byMut t ls ⊛ Each keptMut t ls))))
