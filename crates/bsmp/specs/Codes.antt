@@ -14,7 +14,7 @@ use Rattle.bsmp.specs.declared.WireError.{WireError}
 use Rattle.bsmp.specs.declared.WireError.the-variants.{Malformed, Unsupported, BadId, BadValue, BadSize, ReadOnly, Full, Busy}
 use Rattle.bsmp.specs.declared.Refusal.{Refusal}
 use Rattle.bsmp.specs.declared.Refusal.the-variants.{BoardUnusable, BadAddress, ReplyBufferShort, PacketLength, Checksum, NotForThisBoard}
-use Rattle.bsmp.specs.declared.Refusal.the-variants.{NoSuchFunction, OutputLength, NoSuchVariable, WrongByteCount, WrongKind, DoesNotFit}
+use Rattle.bsmp.specs.declared.Refusal.the-variants.{NoSuchFunction, OutputLength, NoSuchVariable, WrongByteCount, WrongKind, DoesNotFit, ReplyUnfit, RequestUnwritable}
 
 -- what stands beside a number in a table, or the one that stands for all other numbers
 abbrev pub coded : {A : Type 0} → List (ℕ × A) → A → ℕ → A
@@ -84,3 +84,6 @@ refusalNumber NoSuchVariable = 9
 refusalNumber WrongByteCount = 10
 refusalNumber WrongKind = 11
 refusalNumber DoesNotFit = 12
+-- 02, 2026-04: "13 reply doesn't fit the request, .. 14 request can't be written"
+refusalNumber ReplyUnfit = 13
+refusalNumber RequestUnwritable = 14

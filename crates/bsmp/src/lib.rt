@@ -263,7 +263,7 @@ pub enum Check {
     Fail(WireError),
 }
 
-// The local refusals; 01's numbers 1 to 12 in this order.
+// The local refusals; 01's numbers 1 to 12, and 02's 13 and 14, in this order.
 pub enum Refusal {
     BoardUnusable,
     BadAddress,
@@ -277,6 +277,8 @@ pub enum Refusal {
     WrongByteCount,
     WrongKind,
     DoesNotFit,
+    ReplyUnfit,
+    RequestUnwritable,
 }
 
 impl Refusal {
@@ -296,6 +298,8 @@ impl Refusal {
             Refusal::WrongByteCount => 10,
             Refusal::WrongKind => 11,
             Refusal::DoesNotFit => 12,
+            Refusal::ReplyUnfit => 13,
+            Refusal::RequestUnwritable => 14,
         }
     }
 }

@@ -9,7 +9,7 @@ use Rattle.bsmp.specs.declared.Outcome.{Outcome}
 use Rattle.bsmp.specs.declared.Outcome.the-variants as O
 use Rattle.bsmp.specs.declared.Refusal.{Refusal}
 use Rattle.bsmp.specs.declared.Refusal.the-variants.{BoardUnusable, BadAddress, ReplyBufferShort, PacketLength, Checksum, NotForThisBoard}
-use Rattle.bsmp.specs.declared.Refusal.the-variants.{NoSuchFunction, OutputLength, NoSuchVariable, WrongByteCount, WrongKind, DoesNotFit}
+use Rattle.bsmp.specs.declared.Refusal.the-variants.{NoSuchFunction, OutputLength, NoSuchVariable, WrongByteCount, WrongKind, DoesNotFit, ReplyUnfit, RequestUnwritable}
 use Rattle.bsmp.specs.Codes.{refusalNumber}
 use Rattle.plain.specs.Numbers.{plainOutcomeOf}
 use Rattle.plain.specs.declared.PlainOutcome.{PlainOutcome}
@@ -18,7 +18,8 @@ abbrev refusalOf : ℕ → Refusal
 refusalOf n =
     cond (eqb n 1) BoardUnusable (cond (eqb n 2) BadAddress (cond (eqb n 3) ReplyBufferShort (cond (eqb n 4) PacketLength
     (cond (eqb n 5) Checksum (cond (eqb n 6) NotForThisBoard (cond (eqb n 7) NoSuchFunction (cond (eqb n 8) OutputLength
-    (cond (eqb n 9) NoSuchVariable (cond (eqb n 10) WrongByteCount (cond (eqb n 11) WrongKind DoesNotFit))))))))))
+    (cond (eqb n 9) NoSuchVariable (cond (eqb n 10) WrongByteCount (cond (eqb n 11) WrongKind (cond (eqb n 12) DoesNotFit
+    (cond (eqb n 13) ReplyUnfit RequestUnwritable))))))))))))
 
 refusal-back : (r : Refusal) → refusalOf (refusalNumber r) ≡ r
 refusal-back BoardUnusable = refl
@@ -33,11 +34,13 @@ refusal-back NoSuchVariable = refl
 refusal-back WrongByteCount = refl
 refusal-back WrongKind = refl
 refusal-back DoesNotFit = refl
+refusal-back ReplyUnfit = refl
+refusal-back RequestUnwritable = refl
 
 -- no refusal has the number 0
 pub refusal-some : (r : Refusal) → refusalNumber r ≡ 0 → ⊥
 refusal-some r h =
-    let e : DoesNotFit ≡ r = ap refusalOf (sym h) ∙ refusal-back r in
+    let e : RequestUnwritable ≡ r = ap refusalOf (sym h) ∙ refusal-back r in
     omega (arith, h, ap refusalNumber e)
 
 abbrev outcomeFrom : PlainOutcome → Outcome

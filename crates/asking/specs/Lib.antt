@@ -1,0 +1,4 @@
+pub mod Request
+pub mod Learned
+pub mod Reply
+pub mod Learning
