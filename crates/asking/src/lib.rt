@@ -6,7 +6,7 @@ use bsmp::Refusal;
 use bsmp::VariableNumber;
 use bsmp::WireError;
 ghost use mathlib.Core.Path.{_≡_};
-ghost use Rattle.asking.specs.Request.{maskCode};
+ghost use Rattle.asking.specs.Request.{maskCode, isAddress};
 
 // The six operations of a mask, each a request of its own, though two pairs of them do the same.
 pub enum Masking {
@@ -65,6 +65,19 @@ pub enum Request {
     },
     RenewSum(CurveNumber),
     RunFunction(FunctionNumber),
+}
+
+// Whether a request may go there: to a node, or to many.
+pub fn is_address(destination: u8) -> bool
+    ensures { λ r. ⌜ r ≡ isAddress destination ⌝ }
+{
+    if destination < 1 {
+        return false;
+    }
+    if destination <= 31 {
+        return true;
+    }
+    248 <= destination
 }
 
 // How writing a request ends: so many bytes stand at the start of the buffer, or a local refusal.

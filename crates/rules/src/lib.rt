@@ -105,7 +105,8 @@ pub fn usable_records(
     }
 }
 
-fn usable_curve(c: Curve) -> bool
+// The rules of one curve record.
+pub fn usable_curve(c: Curve) -> bool
     ensures { λ r. ⌜ r ≡ usableCurve c ⌝ }
 {
     if 1 < c.writable {

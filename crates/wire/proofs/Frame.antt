@@ -1,4 +1,4 @@
--- How a reply is closed: the bytes that `finish` stores, and what its caller makes of them. Assumes nothing.
+-- How a packet is closed: the bytes that `close` stores, and what the callers of `finish` make of them. Assumes nothing.
 use mathlib.Core.Path.{_≡_, refl, sym, ap, _∙_}
 use mathlib.Core.List.{List, [], _∷_}
 use Prim.Native.Nat.{ℕ, _+_, _-_, _/_, _%_, _≤_, _<_}
@@ -7,7 +7,8 @@ use native.Mathlib.Omega.{arith}
 use borrow.Rule.Slice.PartMut.{midOf}
 use lib.ListN.{length, set, length-set, length-append}
 use Rattle.bsmp.specs.Base.{sum}
-use Rattle.bsmp.specs.Packet.{frame, checksum, reply}
+use Rattle.bsmp.specs.Message.{messageOf}
+use Rattle.bsmp.specs.Packet.{packed, frame, checksum, reply}
 use Rattle.bsmp.specs.Store.{shown, outcomeOf}
 use Rattle.bsmp.specs.declared.Outcome.the-variants.{Reply}
 use Rattle.copies.specs.Put.{put, part}
@@ -25,28 +26,27 @@ put-shown r v =
     rw z
 
 -- the sum of head and payload, from the payload's; and the head, stored byte by byte
-module _ (r : List ℕ) (code n : ℕ) (g : n ≤ 4099) (h : 4104 ≤ length r) where
+module _ (r : List ℕ) (to code n : ℕ) (g : n ≤ 4099) (h : 4104 ≤ length r) where
   closing : (s : ℕ) → s ≡ sum (midOf 4 (4 + n - 4) r) % 256
-      → (256 - (s + code + n / 256 + n % 256) % 256) % 256 ≡ checksum (0 ∷ code ∷ n / 256 ∷ n % 256 ∷ part r 4 n)
+      → (256 - (s + to + code + n / 256 + n % 256) % 256) % 256 ≡ checksum (to ∷ code ∷ n / 256 ∷ n % 256 ∷ part r 4 n)
   unfolding sum part
   closing s e =
       let f : s ≡ sum (part r 4 n) % 256 = rw (← add-sub-cancel-left 4 n) e in
       omega arith
 
-  head : set (set (set (set r 0 0) 1 code) 2 (n / 256)) 3 (n % 256) ≡ put r 0 (0 ∷ code ∷ n / 256 ∷ n % 256 ∷ [])
+  head : set (set (set (set r 0 to) 1 code) 2 (n / 256)) 3 (n % 256) ≡ put r 0 (to ∷ code ∷ n / 256 ∷ n % 256 ∷ [])
   head =
       sym (put-nil _ 4)
-      ∙ put-set (set (set (set r 0 0) 1 code) 2 (n / 256)) 3 (n % 256) [] (simp length-set (omega arith))
-      ∙ put-set (set (set r 0 0) 1 code) 2 (n / 256) _ (simp length-set (omega arith))
-      ∙ put-set (set r 0 0) 1 code _ (simp length-set (omega arith))
-      ∙ put-set r 0 0 _ (omega arith)
+      ∙ put-set (set (set (set r 0 to) 1 code) 2 (n / 256)) 3 (n % 256) [] (simp length-set (omega arith))
+      ∙ put-set (set (set r 0 to) 1 code) 2 (n / 256) _ (simp length-set (omega arith))
+      ∙ put-set (set r 0 to) 1 code _ (simp length-set (omega arith))
+      ∙ put-set r 0 to _ (omega arith)
 
-  pub finished : (s : ℕ) → s ≡ sum (midOf 4 (4 + n - 4) r) % 256
-      → set (set (set (set (set r 0 0) 1 code) 2 (n / 256)) 3 (n % 256)) (4 + n) ((256 - (s + code + n / 256 + n % 256) % 256) % 256)
-      ≡ put r 0 (frame code (part r 4 n))
-  unfolding frame
-  finished s e =
-      let hdr : List ℕ = 0 ∷ code ∷ n / 256 ∷ n % 256 ∷ [] in
+  pub closed : (s : ℕ) → s ≡ sum (midOf 4 (4 + n - 4) r) % 256
+      → set (set (set (set (set r 0 to) 1 code) 2 (n / 256)) 3 (n % 256)) (4 + n) ((256 - (s + to + code + n / 256 + n % 256) % 256) % 256)
+      ≡ put r 0 (packed to (messageOf code (part r 4 n)))
+  closed s e =
+      let hdr : List ℕ = to ∷ code ∷ n / 256 ∷ n % 256 ∷ [] in
       let k : 4 + n < length r = omega arith in
       let l : length (part r 4 n) ≡ n = length-part r 4 n (omega arith) in
       let w : n / 256 % 256 ≡ n / 256 = omega arith in

@@ -1,9 +1,10 @@
-// Packets: opening one, and closing a reply.
+// Packets: opening one, and closing one.
 use bsmp::Refusal;
 ghost use mathlib.Core.Path.{_≡_};
 ghost use Prim.Native.Nat.{_+_, _≤_};
 ghost use lib.ListN.{length};
-ghost use Rattle.bsmp.specs.Packet.{usablePlace, inMulticast, frame};
+ghost use Rattle.bsmp.specs.Message.{messageOf};
+ghost use Rattle.bsmp.specs.Packet.{usablePlace, inMulticast, packed, frame};
 ghost use Rattle.copies.specs.Put.{put, part};
 ghost use Rattle.wire.specs.Opening.{placed, openedOf};
 
@@ -66,20 +67,33 @@ pub fn open(packet: &[u8], own: u8, multicast: u8, room: usize) -> Opened
     Opened::Refused(Refusal::NotForThisBoard)
 }
 
-// Closes a reply whose payload of `size` bytes stands at 4; answers the packet's length. The head is added to the payload's
+// Closes a packet whose payload of `size` bytes stands at 4; answers the packet's length. The head is added to the payload's
 // sum and not read back, since bytes just stored are slow to load.
-pub fn finish(reply: &mut [u8], code: u8, size: usize) -> usize
-    requires { ⌜ (size ≤ 4099) × (4104 ≤ length (now reply)) ⌝ }
-    ensures { λ r. ⌜ (r ≡ size + 5) × (now (reply .exit) ≡ put (now (reply .entry)) 0 (frame code (part (now (reply .entry)) 4 size))) ⌝ }
+pub fn close(packet: &mut [u8], destination: u8, code: u8, size: usize) -> usize
+    requires { ⌜ (size ≤ 4099) × (4104 ≤ length (now packet)) ⌝ }
+    ensures { λ r. let message = messageOf code (part (now (packet .entry)) 4 size) in
+        ⌜ (r ≡ size + 5) × (now (packet .exit) ≡ put (now (packet .entry)) 0 (packed destination message)) ⌝ }
 {
     let end = 4 + size;
     let high = (size / 256) as u8;
     let low = (size % 256) as u8;
-    let sum = lists::byte_sum(&reply[4..end]) as u16 + code as u16 + high as u16 + low as u16;
-    reply[0] = 0;
-    reply[1] = code;
-    reply[2] = high;
-    reply[3] = low;
-    reply[end] = ((256 - sum % 256) % 256) as u8;
+    let sum = lists::byte_sum(&packet[4..end]) as u16
+        + destination as u16
+        + code as u16
+        + high as u16
+        + low as u16;
+    packet[0] = destination;
+    packet[1] = code;
+    packet[2] = high;
+    packet[3] = low;
+    packet[end] = ((256 - sum % 256) % 256) as u8;
     end + 1
+}
+
+// Closes a reply, which goes to destination 0.
+pub fn finish(reply: &mut [u8], code: u8, size: usize) -> usize
+    requires { ⌜ (size ≤ 4099) × (4104 ≤ length (now reply)) ⌝ }
+    ensures { λ r. ⌜ (r ≡ size + 5) × (now (reply .exit) ≡ put (now (reply .entry)) 0 (frame code (part (now (reply .entry)) 4 size))) ⌝ }
+{
+    close(reply, 0, code, size)
 }
