@@ -9,6 +9,7 @@ use Rattle.bsmp.specs.Board.{variable, group, Table, Layout, State, sizeOf, mem
 use Rattle.bsmp.specs.Message.{Change, nothing, edit, fill, renew, regroup, noVariable}
 use Rattle.bsmp.specs.Packet.{Place, Ending, reply, silence, run, packed, packet}
 use Rattle.bsmp.specs.declared.VariableNumber.{VariableNumber}
+use Rattle.bsmp.specs.declared.GroupNumber.{GroupNumber}
 use Rattle.bsmp.specs.declared.Variable.{Variable}
 use Rattle.bsmp.specs.declared.Curve.{Curve}
 use Rattle.bsmp.specs.declared.Function.{Function}
@@ -32,15 +33,19 @@ blank = record { layout = record { sizes = []; writable = 0; curves = []; functi
 abbrev pub withMade : Learned → List ℕ → Learned
 withMade x gs = record { layout = x .layout; groups = gs }
 
--- 01's limits of a made group: "each a non-empty set of declared variables"
+-- 01's limits of a made group: "each a non-empty set of declared variables", of which there are at most 64
 abbrev pub canGroup : Layout → List VariableNumber → Bool
-canGroup l is = ltb 0 (length is) && every (λ i. not (noVariable l i)) is
+canGroup l is = leb (length (l .sizes)) 64 && ltb 0 (length is) && every (λ i. not (noVariable l i)) is
 
 -- the made groups with this one at place k, the next place included; a group that can't be there is not learned
 unfoldable pub regrouped : Learned → ℕ → List VariableNumber → List ℕ
 regrouped x k is =
     cond (leb k (length (x .groups)) && ltb k 5 && canGroup (x .layout) is)
     (take k (x .groups) ++ setOf (x .layout) is ∷ drop (suc k) (x .groups)) (x .groups)
+
+-- those of groups 0 to 2 are known by the variables' types
+abbrev pub shownGroups : Learned → GroupNumber → List VariableNumber → List ℕ
+shownGroups x g is = cond (leb 3 (g .0)) (regrouped x (g .0 - 3) is) (x .groups)
 
 -- an accepted 30 makes a group, an accepted 32 leaves none
 unfoldable pub followed : Learned → Request → (d : List ℕ) → Learned
@@ -74,7 +79,7 @@ taught x r d isDone = followed x r d
 taught x r d (isVersion p) = x
 taught x r d (isVariables vs) = withVariables x vs
 taught x r d (isGroups gs) = withMade x (take (length gs - 3) (x .groups))
-taught x r d (isMembers g is) = withMade x (cond (leb 3 (g .0)) (regrouped x (g .0 - 3) is) (x .groups))
+taught x r d (isMembers g is) = withMade x (shownGroups x g is)
 taught x r d (isCurves cs) = withCurves x cs
 taught x r d (isFunctions fs) = withFunctions x fs
 taught x r d (isValues vs) = x

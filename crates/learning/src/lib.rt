@@ -1,21 +1,19 @@
 // What is learned by a reply: the lists taken over, whole or not at all, and an accepted 30 and 32 followed.
 use asking::Request;
 use asking::Told;
+use bsmp::GroupNumber;
 use learned::Known;
 ghost use mathlib.Core.Path.{_≡_};
-ghost use mathlib.Core.Bool.{_&&_};
 ghost use mathlib.Core.List.{map};
-ghost use Prim.Native.Nat.{_+_, _*_, _%_, _≤_, _<_};
+ghost use Prim.Native.Nat.{_-_, _%_, _≤_, min};
 ghost use lib.Dec.{leb, ltb};
 ghost use lib.ListN.{length};
 ghost use Rattle.bsmp.specs.Base.{every, marksOf};
-ghost use Rattle.bsmp.specs.Board.{variable};
 ghost use Rattle.copies.specs.Put.{put};
 ghost use Rattle.asking.specs.Learned.{curvesFrom};
-ghost use Rattle.asking.specs.Reply.{toldOf, hearing};
-ghost use Rattle.asking.specs.Learning.{regrouped, learning};
-ghost use Rattle.learned.specs.Table.{tableOf, curvesIn, functionsIn};
-ghost use Rattle.learning.specs.Taking.{isTold, heardLeft, heardOf, curvesTaken, functionsTaken, groupPut, taughtBy};
+ghost use Rattle.records.specs.Lending.{groupsBy, groupsOf};
+ghost use Rattle.learned.specs.Table.{tableOf};
+ghost use Rattle.learning.specs.Taking.{isTold, curvesTaken, functionsTaken, Regrouped, Shown, knownGroups, Answers, taughtBy, heardLeft, heardOf};
 
 // What was heard, and how much is known then.
 pub struct Heard {
@@ -121,7 +119,8 @@ fn are_known(ids: &[u8], variables: u64) -> bool
 
 // The group of these variables at a place, the next one included; it is left out where it can't be. How many there are then.
 fn put_group(variables: u64, groups: u64, sets: &mut [u64; 5], place: u64, ids: &[u8]) -> u64
-    ensures { λ r. ⌜ groupPut variables groups (now (sets .entry)) place (now (ids .entry)) r (now (sets .exit)) ⌝ }
+    ensures { λ r. let before = groupsOf (groupsBy groups (now (sets .entry))) in
+        ⌜ Regrouped variables before place (now (ids .entry)) (groupsOf (groupsBy r (now (sets .exit)))) ⌝ }
 {
     if groups < place {
         return groups;
@@ -129,21 +128,58 @@ fn put_group(variables: u64, groups: u64, sets: &mut [u64; 5], place: u64, ids: 
     if 5 <= place {
         return groups;
     }
-    if ids.len() == 0 {
+    if 64 < variables {
         return groups;
     }
-    if 64 < variables {
+    if ids.len() == 0 {
         return groups;
     }
     if !are_known(ids, variables) {
         return groups;
     }
     let at = place as usize;
-    sets[at] = sets::set_of(ids);
-    if place == groups {
-        return groups + 1;
+    let set = sets::set_of(ids);
+    sets[at] = set;
+    if place < groups {
+        return groups;
+    }
+    groups + 1
+}
+
+// The members of a group that was shown: those of 0 to 2 are known by the variables' types.
+fn show_group(variables: u64, groups: u64, sets: &mut [u64; 5], g: GroupNumber, ids: &[u8]) -> u64
+    ensures { λ r. let before = groupsOf (groupsBy groups (now (sets .entry))) in
+        ⌜ Shown variables before g (now (ids .entry)) (groupsOf (groupsBy r (now (sets .exit)))) ⌝ }
+{
+    let number = g.0;
+    if number < 3 {
+        return groups;
+    }
+    put_group(variables, groups, sets, (number - 3) as u64, ids)
+}
+
+// The made groups of so many in all: those past them are gone.
+fn fewer(groups: u64, told: usize) -> u64
+    requires { ⌜ 3 ≤ told ⌝ }
+    ensures { λ r. ⌜ r ≡ min (told - 3) groups ⌝ }
+{
+    let made = (told - 3) as u64;
+    if made < groups {
+        return made;
     }
     groups
+}
+
+fn with_groups(known: Known, groups: u64) -> Known
+    ensures { λ r. ⌜ r ≡ knownGroups known groups ⌝ }
+{
+    Known {
+        variables: known.variables,
+        writable: known.writable,
+        groups,
+        curves: known.curves,
+        functions: known.functions,
+    }
 }
 
 // What an answer to a request teaches: `ids` are those of the new group that was asked for, `payload` is the answer's.
@@ -157,6 +193,9 @@ fn learn(
     ids: &[u8],
     payload: &[u8],
 ) -> Known
+    requires { ⌜ Answers request (now payload) ⌝ }
+    ensures { λ r. let x = tableOf known (now (sizes .entry)) (now (sets .entry)) (now (curves .entry)) (now (functions .entry)) in
+        ⌜ tableOf r (now (sizes .exit)) (now (sets .exit)) (now (curves .exit)) (now (functions .exit)) ≡ taughtBy x request (now (ids .entry)) (now (payload .entry)) ⌝ }
 {
     match request {
         Request::ListVariables => {
@@ -171,7 +210,7 @@ fn learn(
         }
         Request::ListGroups => with_groups(known, fewer(known.groups, payload.len())),
         Request::ShowGroup(g) => {
-            let groups = show_group(known, sets, g, payload);
+            let groups = show_group(known.variables, known.groups, sets, g, payload);
             with_groups(known, groups)
         }
         Request::ListCurves => {
@@ -199,6 +238,53 @@ fn learn(
             with_groups(known, groups)
         }
         Request::RemoveGroups => with_groups(known, 0),
-        _ => known,
+        Request::Version => known,
+        Request::ReadSum(_) => known,
+        Request::ReadVariable(_) => known,
+        Request::ReadGroup(_) => known,
+        Request::WriteVariable(_) => known,
+        Request::WriteGroup(_) => known,
+        Request::MaskVariable(_, _) => known,
+        Request::MaskGroup(_, _) => known,
+        Request::WriteRead { written: _, read: _ } => known,
+        Request::ReadBlock { curve: _, block: _ } => known,
+        Request::WriteBlock { curve: _, block: _ } => known,
+        Request::RenewSum(_) => known,
+        Request::RunFunction(_) => known,
     }
+}
+
+// A reply to a request that went to this destination, heard: what it says, and the table after it. `bytes` are those that went with the
+// request.
+pub fn hear(
+    known: Known,
+    sizes: &mut [u8; 64],
+    sets: &mut [u64; 5],
+    curves: &mut [u32; 24],
+    functions: &mut [u8; 32],
+    destination: u8,
+    request: Request,
+    bytes: &[u8],
+    reply: &[u8],
+) -> Heard
+    ensures { λ r. let x = tableOf known (now (sizes .entry)) (now (sets .entry)) (now (curves .entry)) (now (functions .entry)) in
+        let y = tableOf (r .known) (now (sizes .exit)) (now (sets .exit)) (now (curves .exit)) (now (functions .exit)) in
+        ⌜ heardLeft (r .told) y ≡ heardOf x destination request (now (bytes .entry)) (now (reply .entry)) ⌝ }
+{
+    let told = replies::read(known, sizes, sets, curves, functions, destination, request, reply);
+    if !is_told(told) {
+        return Heard { told, known };
+    }
+    let end = reply.len() - 1;
+    let known = learn(
+        known,
+        sizes,
+        sets,
+        curves,
+        functions,
+        request,
+        bytes,
+        &reply[4..end],
+    );
+    Heard { told, known }
 }

@@ -14,9 +14,12 @@ use Rattle.bsmp.specs.declared.Outcome.the-variants.{Reply}
 use Rattle.copies.specs.Put.{put, part}
 use Rattle.copies.proofs.Put.{put-nil, put-set, put-closed, put-cover, part-put, length-part}
 
+pub length-packed : (to code : ℕ) (v : List ℕ) → length (packed to (messageOf code v)) ≡ length v + 5
+length-packed to code v = simp length-append (omega arith)
+
 pub length-frame : (code : ℕ) (v : List ℕ) → length (frame code v) ≡ length v + 5
 unfolding frame
-length-frame code v = simp length-append (omega arith)
+length-frame code v = length-packed 0 code v
 
 -- what stands at the front of the buffer, as `shown` has it
 pub put-shown : (r v : List ℕ) → put r 0 v ≡ shown (reply v) r
@@ -52,13 +55,18 @@ module _ (r : List ℕ) (to code n : ℕ) (g : n ≤ 4099) (h : 4104 ≤ length 
       let w : n / 256 % 256 ≡ n / 256 = omega arith in
       rw (head, closing s e, put-closed r hdr 4 n _ refl, l, w)
 
--- a payload v that was written behind the place of the head, and closed: what a reply leaves in the buffer
+-- a payload v that was written behind the place of the head, and closed: what a packet leaves in the buffer
+pub packed-over : (to : ℕ) (r v : List ℕ) (code n : ℕ) (r₁ r₂ : List ℕ) → r₁ ≡ put r 4 v → n ≡ length v → 4 + length v < length r
+    → r₂ ≡ put r₁ 0 (packed to (messageOf code (part r₁ 4 n))) → r₂ ≡ put r 0 (packed to (messageOf code v))
+packed-over to r v code n r₁ r₂ w e h f =
+    let a : part (put r 4 v) 4 n ≡ v = ap (part (put r 4 v) 4) e ∙ part-put r 4 v (omega arith) in
+    let l : 4 + length v ≤ length (packed to (messageOf code v)) = omega (arith, length-packed to code v) in
+    f ∙ rw (w, a) (put-cover r 4 v (packed to (messageOf code v)) l (omega arith))
+
 module _ (r v : List ℕ) (code n : ℕ) (r₁ r₂ : List ℕ) (w : r₁ ≡ put r 4 v) (e : n ≡ length v) (h : 4 + length v < length r) (f : r₂ ≡ put r₁ 0 (frame code (part r₁ 4 n))) where
   pub frame-over : r₂ ≡ put r 0 (frame code v)
-  frame-over =
-      let a : part (put r 4 v) 4 n ≡ v = ap (part (put r 4 v) 4) e ∙ part-put r 4 v (omega arith) in
-      let l : 4 + length v ≤ length (frame code v) = omega (arith, length-frame code v) in
-      f ∙ rw (w, a) (put-cover r 4 v (frame code v) l (omega arith))
+  unfolding frame
+  frame-over = packed-over 0 r v code n r₁ r₂ w e h f
 
   pub frame-shown : r₂ ≡ shown (reply (frame code v)) r
   frame-shown = frame-over ∙ put-shown r (frame code v)
