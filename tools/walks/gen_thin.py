@@ -4,9 +4,9 @@
   fn entry(P..) -> OUT {
       let mut c = [0u8; 64];             // one `let` for each column
       let n = TABLE(vars, &mut c..);     // the parameter of kind `records`, a lent slice of structs, stored into the columns
-      let m = state.number;              // one `let` for each `state` (&mut S, S a number and places) and `view` (&S), in the parameters' order
-      let r = work(W..);                 // n, &c.. in the place of vars; m, &mut state.places and &view.places in the place of each; the others as they came
-      state.number = r.number;           // one store for each `state`, in the parameters' order
+      let m = state.number;              // one `let` for each number of each `state` (&mut S, S numbers and then places) and `view` (&S), in the parameters' order
+      let r = work(W..);                 // n, &c.. in the place of vars; m.., &mut state.places and &view.places in the place of each; the others as they came
+      state.number = r.number;           // one store for each number of each `state`, in the same order
       r.out                              // with no `state`: the body ends in `work(W..)`, and its result is the entry's
   }
 
@@ -15,10 +15,11 @@ Nothing here is trusted: the prover checks what is written. usage: gen_thin.py B
 BOARD: types {type: the crate that declares it}; table {fn, walk, lending, table, by, count, columns, places, zeros, spec, read, uses}: the type of a table, `by` that makes one of its count and
        columns, with the fields' names; how many places a column has, and how one of zeros is written; `spec` gives the table of the lent records, `read` the records that a table says;
        fn, and the modules walk and lending, with the crate that has them; uses as CRATE:specs.Module.{names}.
-       held {S: {by, number [field, type], places [field, type, how many, offset], lending, uses}}: the type of a state or view, `by` that makes one of its two fields.
+       held {S: {by, numbers [[field, type]..], places [field, type, how many, offset], lending, uses}}: the type of a state or view, its fields in their order, one number
+       or several and then an array of numbers; `by` that makes one of its fields.
 SHAPE: out [kind, type]; params [[name, kind, type]], kind: records | mut | shr | state | view | int | bool | struct;
        work [the parameters' names in the callee's order] where it is another;
-       answer {type, out [field, number], NAME [field, number] of each state's number} where there are states;
+       answer {type, out [field, number], NAME [[field, number]..] of each state's numbers, in their order} where there are states;
        said {turn, work, entry, uses}: the type of what a call comes to, and how the two contracts say what the call leaves, which is equal to it: $r is the result, and each
             state and each `mut` by its name is what it is last, and in `work` a state's name its places; `entry` only where it is another.
 An entry's `Proof` gives `turnOf`, what a call comes to by the lent records and the other arguments, and `agree`, that it is the same of the records that the table says.
@@ -47,9 +48,11 @@ tk = [byname[n] for n in S.get("work", [p["name"] for p in P])]
 t = S["table"]
 count = dict(name=t["count"], kind="count"); columns = [dict(name=n, kind="column") for n in t["columns"]]
 for p in reads:
-    p["held"] = S["held"][p["ty"]]; (f, ty), (g, pty, many, at) = p["held"]["number"], p["held"]["places"]
-    p["number"] = dict(name=f"{p['name']}.{f}", kind="number", ty=ty, field=f, of=p); p["places"] = dict(name=f"{p['name']}.{g}", kind="places" if p in sts else "shown", ty=pty, field=g, many=many, at=at, of=p)
-wk = [q for p in tk for q in ([count] + columns if p is rec else [p["number"], p["places"]] if p in reads else [p])]
+    p["held"] = S["held"][p["ty"]]; g, pty, many, at = p["held"]["places"]
+    p["numbers"] = [dict(name=f"{p['name']}.{f}", kind="number", ty=ty, field=f, k=k, of=p) for k, (f, ty) in enumerate(p["held"]["numbers"])]
+    p["places"] = dict(name=f"{p['name']}.{g}", kind="places" if p in sts else "shown", ty=pty, field=g, k=len(p["numbers"]), many=many, at=at, of=p)
+numbers = [q for p in reads for q in p["numbers"]]
+wk = [q for p in tk for q in ([count] + columns if p is rec else p["numbers"] + [p["places"]] if p in reads else [p])]
 lent = [p for p in wk if p["kind"] in ("column", "places", "shown", "mut", "shr")]
 wrefs = [p for p in wk if p["kind"] in ("mut", "shr")]
 muts = [p for p in wk if p["kind"] == "mut"]; shrs = [p for p in wk if p["kind"] == "shr"]
@@ -60,7 +63,7 @@ loc = {"out": 0}
 for p in P: loc[p["name"]] = p["i"] + 1
 k = NP + 1
 MADE = {"column": ["#b"], "places": ["#a"], "shown": ["#a"], "mut": ["#p", "#s"]}; given = [p for p in wk if p["kind"] in MADE]
-for x in ["#c" + p["name"] for p in columns] + ["#n"] + ["#g" + p["name"] for p in reads] + ([] if DIRECT else ["#r"]) + ["#m" + p["name"] for p in columns] + [x + p["name"] for p in given for x in MADE[p["kind"]]]: loc[x] = k; k += 1
+for x in ["#c" + p["name"] for p in columns] + ["#n"] + ["#g" + q["name"] for q in numbers] + ([] if DIRECT else ["#r"]) + ["#m" + p["name"] for p in columns] + [x + p["name"] for p in given for x in MADE[p["kind"]]]: loc[x] = k; k += 1
 if DIRECT: loc["#r"] = 0
 N = k
 declared = {}
@@ -91,8 +94,11 @@ RE = Row("struct", rec["ty"]); RC = Row("int", "usize"); r0 = rec["name"]; rec["
 for p in P:
     if p in plains or p in reads: p["R"] = Row("struct" if p in reads else p["kind"], p["ty"]); p["row"] = p["R"].row
     elif p is not rec: p["row"] = p["ty"]
-for p in reads: p["number"]["R"] = Row("int", p["number"]["ty"])
+for q in numbers: q["R"] = Row("int", q["ty"])
 a = S.get("answer"); sd = S["said"]
+for p in sts:
+    assert len(a[p["name"]]) == len(p["numbers"]), f"the answer gives each number of {p['name']}"
+    for q, told in zip(p["numbers"], a[p["name"]]): q["told"] = told
 def says(which, turn, r, lasts): return string.Template(sd.get(which, sd["work"])).substitute(r=r, **lasts) + " ≡ " + turn
 SLOT = {"records": "SliceRefOf", "shr": "SliceRefOf", "mut": "SliceRefMutOf", "state": "RefMutOf", "view": "RefOf"}
 def slot(p, j=None):
@@ -210,25 +216,25 @@ ARR = lambda p: f"(tyArray (tyInt {W[p['ty']]}) {p['many']})"
 def temps(p):
     e = f"(tyRef erased mut (tyInt {W[p['ty']]}))" if p in muts else ""
     return [e, f"(sliceTy {e})"] if e else [f"(tyRef erased imm {COL})"] if p in columns else [f"(tyRef erased {'mut' if p['kind'] == 'places' else 'imm'} {ARR(p)})"]
-locs = [RO.mir] + [lty(p) for p in P] + [COL for p in columns] + [RC.mir] + [p["number"]["R"].mir for p in reads] + ([] if DIRECT else [RD.mir])
+locs = [RO.mir] + [lty(p) for p in P] + [COL for p in columns] + [RC.mir] + [q["R"].mir for q in numbers] + ([] if DIRECT else [RD.mir])
 locs += [f"(tyRef erased mut {COL})" for p in columns] + [x for p in given for x in temps(p)]
 def pl(x, steps=""): return f"(place {loc[x]} ({steps}[]))" if steps else f"(place {loc[x]} [])"
 stm = [f"assign {pl('#c' + p['name'])} (repeat (int w8 0) {t['places']})" for p in columns] + [f"assign {pl('#m' + p['name'])} (addrOf {pl('#c' + p['name'])})" for p in columns]
 targ = [r0] + ["#m" + p["name"] for p in columns]; stm.append(f"call kt ({lst(['copy ' + pl(x) for x in targ])}) {pl('#n')}")
-def behind(p, k): return pl(p["name"], f"deref {p['R'].mir} ∷ field {k} ∷ ")
-for p in reads: stm.append(f"assign {pl('#g' + p['name'])} (rvOpd (copy {behind(p, 0)}))")
+def behind(q): return pl(q["of"]["name"], f"deref {q['of']['R'].mir} ∷ field {q['k']} ∷ ")
+for q in numbers: stm.append(f"assign {pl('#g' + q['name'])} (rvOpd (copy {behind(q)}))")
 for p in given:
     n = p["name"]
     if p in columns: stm.append(f"assign {pl('#b' + n)} (addrOf {pl('#c' + n)})")
     elif p in muts:
         stm.append(f"assign {pl('#p' + n)} (addrOf {pl(n, 'field 0 ∷ deref (tyInt ' + W[p['ty']] + ') ∷ ')})")
         stm.append(f"assign {pl('#s' + n)} (aggregate (copy {pl('#p' + n)} ∷ copy {pl(n, 'field 1 ∷ ')} ∷ []))")
-    else: stm.append(f"assign {pl('#a' + n)} (addrOf {behind(p['of'], 1)})")
+    else: stm.append(f"assign {pl('#a' + n)} (addrOf {behind(p)})")
 def arg(p):
     k, n = p["kind"], p["name"]
-    return "#n" if p is count else "#g" + p["of"]["name"] if k == "number" else {"column": "#b", "places": "#a", "shown": "#a", "mut": "#s"}.get(k, "") + n
+    return "#n" if p is count else {"number": "#g", "column": "#b", "places": "#a", "shown": "#a", "mut": "#s"}.get(k, "") + n
 stm.append(f"call kc ({lst(['copy ' + pl(arg(p)) for p in wk])}) {pl('#r')}")
-for p in sts: stm.append(f"assign {behind(p, 0)} (rvOpd (copy {pl('#r', 'field %d ∷ ' % a[p['name']][1])}))")
+for q in [q for p in sts for q in p["numbers"]]: stm.append(f"assign {behind(q)} (rvOpd (copy {pl('#r', 'field %d ∷ ' % q['told'][1])}))")
 if not DIRECT: stm.append(f"assign {pl('out')} (rvOpd (copy {pl('#r', 'field %d ∷ ' % a['out'][1])}))")
 slots = [loc["#c" + p["name"]] for p in columns]
 KT = "kt kc"; KTY = "(kt kc : Name)"
@@ -252,8 +258,8 @@ def ent_arg(p):
     v = f"a{proj(p['i'])}"; return f"(now ({v}))" if p in refs else f"({v})"
 def wk_arg(p): v = f"(a{proj(wk.index(p))})"; return v if p not in lent else f"(now {v})"
 TABLE = f"({t['read']} ({t['by']} {' '.join(wk_arg(p) for p in [count] + columns)}))"
-def held(p, m, xs): return f"({p['held']['by']} {m} {xs})"
-eargs = " ".join(ent_arg(p) for p in tk); wargs = " ".join(TABLE if p is rec else held(p, wk_arg(p["number"]), wk_arg(p["places"])) if p in reads else wk_arg(p) for p in tk)
+def held(p, of): return f"({p['held']['by']} {' '.join(of(q) for q in p['numbers'] + [p['places']])})"
+eargs = " ".join(ent_arg(p) for p in tk); wargs = " ".join(TABLE if p is rec else held(p, wk_arg) if p in reads else wk_arg(p) for p in tk)
 TO = "turnOf"; TOB = "(turnOf : TurnOf)"; TOT = "TurnOf → "
 elast = {p["name"]: f"(now (e{proj(p['i'])}))" for p in sts + muts}; lasting = [p for p in wk if p in muts or p["kind"] == "places"]
 def whose(p): return (p if p in muts else p["of"])["name"]
@@ -307,8 +313,9 @@ for p in reads:
         w(f"  abbrev Bor-{n} : Fml"); w(f"  Bor-{n} = fshr-bor κ-{n} (λ s. partAt {p['row']} s h-{n} b-{n} o-{n})"); w()
         w(f"  abbrev Obs-{n} : {p['R'].D} → Fml"); w(f"  Obs-{n} g = fres γ-{n} ({p['row']} .coded .code g)"); w()
     w(f"  -- a share of the struct's cell with these fields, and the places within it")
-    w(f"  abbrev Cell-{n} : Share → ℕ → Val → Item 𝓤"); w(f"  Cell-{n} q m u = ‵ (fat q (rawTy {p['R'].mir}) b-{n} o-{n} (vstruct (ofList ({p['number']['R'].mach('m')} ∷ u ∷ []))))"); w()
-    w(f"  part-{n} : (q : Share) (m : ℕ) (u : Val) → Part (Go {{0}}) W (Cell-{n} q m u) q {ARR(p['places'])} b-{n} (o-{n} + {p['places']['at']}) u (Cell-{n} q m)"); w(f"  part-{n} q m u = sub ! 1 refl (whole !)"); w()
+    ms = [f"m{q['k']}" for q in p["numbers"]] if len(p["numbers"]) > 1 else ["m"]; m = " ".join(ms)
+    w(f"  abbrev Cell-{n} : Share → {'ℕ → ' * len(ms)}Val → Item 𝓤"); w(f"  Cell-{n} q {m} u = ‵ (fat q (rawTy {p['R'].mir}) b-{n} o-{n} (vstruct (ofList ({lst([q['R'].mach(x) for q, x in zip(p['numbers'], ms)] + ['u'])}))))"); w()
+    w(f"  part-{n} : (q : Share) ({m} : ℕ) (u : Val) → Part (Go {{0}}) W (Cell-{n} q {m} u) q {ARR(p['places'])} b-{n} (o-{n} + {p['places']['at']}) u (Cell-{n} q {m})"); w(f"  part-{n} q {m} u = sub ! {p['places']['k']} refl (whole !)"); w()
 tok = lambda p: f"(flft κ-{p['name']} q-{p['name']})"
 fld_of = lambda p: f"(tbl .{p['name']})"; ctok = lambda p: f"(token (ls .{p['name']}))"
 lftof = lambda p: f"lft (ls .{p['name']})" if p in columns else f"lft loan-{p['of']['name']}" if p["kind"] in ("places", "shown") else "κ-" + p["name"]
@@ -323,7 +330,7 @@ def to(what, at): return f"(to-{what} {at[0]} {at[1]}{LOANS if what == 'work' el
 def within(p): q = p["places"]; return f"{W[q['ty']]} {q['many']} b-{p['name']} (o-{p['name']} + {q['at']})"
 def share(p): return "fullShare" if p in sts else f"q′-{p['name']}"
 def cell_of(p, m): return f"Cell-{p['name']} {share(p)} {m}"
-def by_law(p): return f"{within(p)} 𝓤 H A W {'' if p in sts else share(p) + ' '}({cell_of(p, of_state(p['number']))})"
+def by_law(p): return f"{within(p)} 𝓤 H A W {'' if p in sts else share(p) + ' '}({cell_of(p, of_numbers(p))})"
 def lent_in(p, l): return f"{'lentPlaces' if p in sts else 'shownPlaces'} {within(p)} {l} {of_state(p['places'])}"
 def kept_in(p, l): return f"keptPlaces {by_law(p)} {l}" if p in sts else f"keptShown {by_law(p)} {l} {of_state(p['places'])}"
 def in_places(p, xs): return f"(numbersVal {W[p['places']['ty']]} {xs})"
@@ -367,6 +374,7 @@ cx.move(*[f"f-{p['name']}" for p in columns]); cx.group(len(columns), "last"); c
 cx.step("at-once !"); cx.step(f"check ! (ap only (is .0) ∙ ap (λ (t : {t['table']}). {RC.mach('(t .%s)' % count['name'])}) e, subst (λ (t : {t['table']}). t .{count['name']} < 2 ^ 64) e (is .1))")
 cx.keep(f"t-{r0}", "lent-tokens", "last"); w(cx.text("done !))))")); w()
 def of_state(p): return f"(h-{p['of']['name']} .{p['field']})"
+def of_numbers(p): return " ".join(of_state(q) for q in p["numbers"])
 def placed(p): n = p["of"]["name"]; return f"b-{n} (o-{n} + {p['at']})"
 def wa(p):
     if p["kind"] in ("places", "shown"): return f"placesRef {placed(p)} loan-{p['of']['name']} {of_state(p)}"
@@ -392,7 +400,7 @@ w(f"  goes-work : {LS}{ALOAN} → {''.join(h + ' → ' for h in hyps)}ent 𝓤 (
 w(f"  goes-work {' '.join(hnames)} =".replace("  =", " ="))
 def had_field(p):
     s = p["of"]; had = lambda k: s["R"].owed(f"h-{s['name']}", f"was-{s['name']}", k)
-    return had(0) if p is s["number"] else f"subst (λ (xs : List ℕ). {are_places(s, 'xs')}) (map-id {of_state(p)}) ({had(1)})"
+    return had(p["k"]) if p["kind"] == "number" else f"subst (λ (xs : List ℕ). {are_places(s, 'xs')}) (map-id {of_state(p)}) ({had(p['k'])})"
 cx = Cx(had0, "      ")
 splits(cx.move("lent-tokens"), [f"t-{p['name']}" for p in columns]); splits(cx.move("lent-columns"), [f"O-{p['name']}" for p in columns])
 for p in shrs:
@@ -434,15 +442,17 @@ splits(cx, [f"t-{p['name']}" for p in lent] + ["true"]); cx.move(*[f"t-{p['name'
 cx.step("at-once !"); cx.step(f"show ! (λ (y : Ans). guard 𝓤 (Known u y) (mean 𝓤 H A {work_left(LEMMA)})) (r, {tup([wsj(p)[1:-1] for p in lasting])})")
 cx.step(f"check ! (record {{ val = ap only ({RD.tells} r (u ∷ []) is); is = subst (Is {RD.row} r) ({RD.tells} r (u ∷ []) is) is; said = e" + "".join(f"; len-{p['name']} = len-{p['name']}" for p in muts) + " })")
 cx.keep("lent-tokens", *had_back, *(hadN or ["true"])); w(cx.text("done !" + ")" * par)); w()
-def new_number(p): return f"(y .0 .{a[p['name']][0]})"
-fst = {p["name"]: held(p, new_number(p), f"({fins('y', p['places'])})") for p in sts}
+def new(q): return f"(y .0 .{q['told'][0]})" if q["kind"] == "number" else f"({fins('y', q)})"
+def new_numbers(p): return " ".join(new(q) for q in p["numbers"])
+def is_new(q): return (q["of"]["name"] if len(q["of"]["numbers"]) == 1 else f"{q['of']['name']}-{q['field']}") + "-is"
+fst = {p["name"]: held(p, new) for p in sts}
 if not DIRECT:
     w("  -- what whoever holds the answer knows of its fields")
-    for nm, R in [(p["name"], p["number"]["R"]) for p in sts] + [("out", RO)]:
-        d = f"(d .{a[nm][0]})"; w(f"  {nm}-is : (d : {RD.D}) → {RD.is_('d')} → {R.is_(d)}"); w(f"  {nm}-is d is = {RD.owed('d', 'is', a[nm][1])}"); w()
+    for law_of, R, (f, i) in [(is_new(q), q["R"], q["told"]) for p in sts for q in p["numbers"]] + [("out-is", RO, a["out"])]:
+        w(f"  {law_of} : (d : {RD.D}) → {RD.is_('d')} → {R.is_(f'(d .{f})')}"); w(f"  {law_of} d is = {RD.owed('d', 'is', i)}"); w()
     for p in sts:
-        n = p["name"]; xs = f"({fins('y', p['places'])})"
-        w(f"  {n}-left : (y : Ans) → {RD.is_('(y .0)')} → {are_places(p, xs)} → {p['R'].is_(fst[n])}"); w(f"  {n}-left y is are = LL.owes {p['R'].mm}.the-laws {fst[n]} ({n}-is (y .0) is, (subst (λ (xs : List ℕ). {are_places(p, 'xs')}) (sym (map-id {xs})) are, tt))"); w()
+        n = p["name"]; xs = new(p["places"]); fields = tup([f"{is_new(q)} (y .0) is" for q in p["numbers"]] + [f"subst (λ (xs : List ℕ). {are_places(p, 'xs')}) (sym (map-id {xs})) are"])
+        w(f"  {n}-left : (y : Ans) → {RD.is_('(y .0)')} → {are_places(p, xs)} → {p['R'].is_(fst[n])}"); w(f"  {n}-left y is are = LL.owes {p['R'].mm}.the-laws {fst[n]} {fields}"); w()
 yo = "(y .0)" if DIRECT else f"(y .0 .{a['out'][0]})"; yois = "(e .is)" if DIRECT else "(out-is (y .0) (e .is))"
 ex0 = []; exF = {}
 for p in reads: n = p["name"]; ex0 += [f"obs-{n}", f"bor-{n}", f"t-{n}"]; exF.update({f"obs-{n}": f"‵ (Obs-{n} {fst[n] if p in sts else 'h-' + n})", f"bor-{n}": f"‵ Bor-{n}", f"t-{n}": f"‵ {tok(p)}"})
@@ -527,7 +537,7 @@ w(I + f"use1 W (later (given ({TOLD}) ({table_left(FIRST)}))) (told-table {BS} l
 cx.c[0] = "left"; splits(cx, [f"t-{r0}", "lent-tokens", "last"]); comes_back("mut-back", ["lent-tokens", "kept", "last"], FIRST, "are")
 landed("#n", RC, fld_of(count), "(is .0)", "is"); note()
 for p in reads:
-    n = p["name"]; R = p["R"]; m = R.mach(f"h-{n}"); q = p["number"]
+    n = p["name"]; R = p["R"]; m = R.mach(f"h-{n}")
     if p in sts:
         cx.move(f"obs-{n}", f"bor-{n}", f"t-{n}"); flush()
         w(I + f"opens ! tt {R.row} {{h = h-{n}}} b-{n} o-{n} (λ vs-{n}. spelt ! {R.spelt()} fullShare h-{n} vs-{n} b-{n} o-{n} $ move ! (1 ∷ []) $ facts ! {R.sh()} h-{n} ({m} ∷ []) (λ was-{n}."); par += 2
@@ -536,8 +546,8 @@ for p in reads:
         cx.move(f"bor-{n}", f"t-{n}"); flush()
         w(I + f"looks ! tt {R.spelt()} {R.copy} h-{n} b-{n} o-{n} (λ q′-{n} vs-{n}. spelt ! {R.spelt()} q′-{n} h-{n} vs-{n} b-{n} o-{n} $ move ! (1 ∷ []) $ peeks ! {R.sh()} h-{n} ({m} ∷ []) (λ was-{n}. move ! (1 ∷ 0 ∷ []) $"); par += 2
         cx.c[0:2] = [f"cell-{n}", f"own-{n}", f"open-{n}", f"bor-{n}"]
-    back(); cell = cx.pos(f"cell-{n}"); cx.step(mapped(p, cell, of_state(q), f"(map-id {of_state(p['places'])})"))
-    cx.step(f"assigns ! (of-opd ! (load ! (from ! (hop ! (look ! {at(n)} refl) (fld ! refl (stop !)))) (look-in ! {cell} (sub ! 0 refl (whole !))))) (from ! (stop !)) (init ! {at('#g' + n)} refl {q['R'].typed(of_state(q), had_field(q))})"); flush()
+    back(); cell = cx.pos(f"cell-{n}"); cx.step(mapped(p, cell, of_numbers(p), f"(map-id {of_state(p['places'])})"))
+    for q in p["numbers"]: cx.step(f"assigns ! (of-opd ! (load ! (from ! (hop ! (look ! {at(n)} refl) (fld ! refl (stop !)))) (look-in ! {cell} (sub ! {q['k']} refl (whole !))))) (from ! (stop !)) (init ! {at('#g' + q['name'])} refl {q['R'].typed(of_state(q), had_field(q))})"); flush()
     note()
 for p in given:
     n = p["name"]
@@ -547,7 +557,7 @@ for p in given:
     cx.step(f"assigns ! (agg ! (and-then ! {ld('#p' + n)} (and-then ! (load ! (from ! (fld ! refl (stop !))) (look-in ! {at(n)} (sub ! 1 refl (whole !)))) (no-more !)))) (from ! (stop !)) (init ! {at('#s' + n)} refl {fits(p)})"); flush()
 lends("lends-shared", "shared", "keptShared", "tbl", "are", SECOND)
 for p in reads:
-    n = p["name"]; q = p["places"]; cx.move(f"cell-{n}"); flush(); xs = of_state(q); m = of_state(p["number"]); u = in_places(p, xs)
+    n = p["name"]; q = p["places"]; cx.move(f"cell-{n}"); flush(); xs = of_state(q); m = of_numbers(p); u = in_places(p, xs)
     w(I + f"use1 W (later (some (λ (l : Loan). ‵ (token l) ⊛ ‵ ({lent_in(p, 'l')}) ⊛ {kept_in(p, 'l')})))")
     w(I + f"({'lends' if p in sts else 'shows'}-places {by_law(p)} ({cell_of(p, m)} {u}) {xs} ({had_field(q)}) (part-{n} {share(p)} {m} {u})) $ await ! tt $ pick ! (λ loan-{n}."); par += 1
     cx.c[0] = "loan"; splits(cx, [f"t-{q['name']}", f"O-{q['name']}", f"kept-{n}"]); flush()
@@ -560,7 +570,7 @@ w(I + f"calls-at ! fm (Work 𝓤 H A {TO}) known-work {to('work', SECOND)} {opds
 w(I + f"use1 W (later (some (λ (y : Ans). given (Known u′ y) {work_left(SECOND)}))) (told-work {BS} ls′{LOANS} u′) $ await ! tt $ pick ! (λ y. learn ! (λ e."); par += 2
 cx.c[0] = "left"; splits(cx, ["lent-tokens"] + had_back + ["had"])
 for p in reads:
-    n = p["name"]; R = p["R"]; q = p["places"]["name"]; m = of_state(p["number"])
+    n = p["name"]; R = p["R"]; q = p["places"]["name"]; m = of_numbers(p)
     xs, by_back, kept = (f"({fins('y', p['places'])})", "places-back", [f"t-{q}", f"kept-{n}", f"f-{q}"]) if p in sts else (of_state(p["places"]), "shown-back", [f"t-{q}", f"kept-{n}"])
     cx.move(*kept); cx.group(len(kept), "loan"); flush()
     w(I + f"use1 W (later (given ({are_places(p, xs)}) ({cell_of(p, m)} {in_places(p, xs)}))) ({by_back} {by_law(p)} loan-{n} {xs}) $ await ! tt $ learn ! (λ {'are-' + n if p in sts else '_'}."); par += 1
@@ -570,11 +580,11 @@ for p in reads:
         cx.step(f"shuts ! tt {R.row} q′-{n} h-{n} ({R.mach('h-' + n)} ∷ []) b-{n} o-{n}"); cx.c[0:3] = [f"t-{n}"]; flush()
 comes_back("shared-back", ["lent-tokens", "kept"], SECOND, "_"); landed("#r", RD, "(y .0)", "(e .val)", "(e .is)"); note()
 fl = lambda i: f"(of-opd ! (load ! (from ! (fld ! refl (stop !))) (look-in ! {at('#r')} (sub ! {i} refl (whole !)))))"
-for p in sts:
-    n = p["name"]; cx.step(f"assigns ! {fl(a[n][1])} (from ! (hop ! (look ! {at(n)} refl) (fld ! refl (stop !)))) (store-in ! {cx.pos('cell-' + n)} (sub ! 0 refl (whole !)) {p['number']['R'].typed(new_number(p), f'({n}-is (y .0) (e .is))')})"); flush()
+for q in [q for p in sts for q in p["numbers"]]:
+    n = q["of"]["name"]; cx.step(f"assigns ! {fl(q['told'][1])} (from ! (hop ! (look ! {at(n)} refl) (fld ! refl (stop !)))) (store-in ! {cx.pos('cell-' + n)} (sub ! {q['k']} refl (whole !)) {q['R'].typed(new(q), f'({is_new(q)} (y .0) (e .is))')})"); flush()
 if not DIRECT: cx.step(f"assigns ! {fl(a['out'][1])} (from ! (stop !)) (init ! {at('out')} refl {RO.typed(yo, yois)})"); flush()
 for p in sts:
-    n = p["name"]; R = p["R"]; cx.move(f"cell-{n}", f"open-{n}", f"obs-{n}", f"auth-{n}"); cx.step(mapped(p, 0, new_number(p), f"(sym (map-id ({fins('y', p['places'])})))")); cx.owned(R.own(fst[n], f"({n}-left y (e .is) are-{n})"), "own"); cx.move(f"cell-{n}", "own")
+    n = p["name"]; R = p["R"]; cx.move(f"cell-{n}", f"open-{n}", f"obs-{n}", f"auth-{n}"); cx.step(mapped(p, 0, new_numbers(p), f"(sym (map-id {new(p['places'])}))")); cx.owned(R.own(fst[n], f"({n}-left y (e .is) are-{n})"), "own"); cx.move(f"cell-{n}", "own")
     cx.step(f"closes ! tt {R.row} {fst[n]} ({R.mach(fst[n])} ∷ []) b-{n} o-{n}"); cx.c[0:5] = [f"obs-{n}", f"bor-{n}", f"t-{n}"]; back(); flush()
 note()
 cx.step("returns ! (look ! 0 refl)"); cx.step("leaves W (" + lst([f"(_, l-{i}, holds _)" for i in range(N)]) + ")"); flush(); cx.c = cx.c[len(LOC):]; cx.keep(*ex0); w(cx.text("by ! (exits u′ y e)" + ")" * par)); w()
