@@ -23,6 +23,7 @@ SHAPE: out [kind, type]; params [[name, kind, type]], kind: records | mut | shr 
        answer {type, out [field, number], NAME [[field, number]..] of each state's numbers, in their order} where there are states;
        said {turn, work, entry, uses}: the type of what a call comes to, and how the two contracts say what the call leaves, which is equal to it: $r is the result, and each
             state and each `mut` by its name is what it is last, and in `work` a state's name its places; `entry` only where it is another.
+       A parameter's name is the shape's own, a word that the walk has for nothing else; a field is named as in antt, a_b as «a_b».
 An entry's `Proof` gives `turnOf`, what a call comes to by the lent records and the other arguments, and, where records are lent, `agree`, that it is the same of the
 records that the table says.
 """
@@ -620,6 +621,9 @@ w(f"  goes : AllGo 𝓤 H A W {L} (signature .params) (ended .kept) stayed"); w(
 w(f"  pub meets : (𝓣 : Tables 𝓤 H) → {trT.replace('(C kt)', '(𝓣 .C kt)')}Triple 𝓤 (𝓣 .C kc) (Work 𝓤 H A {TO}) → Meets 𝓤 H A signature (WpFn 𝓤 H (𝓣 .C) (𝓣 .Λ) (function {KT})) (closing 𝓤 H A ended (clauses {TO} 𝓤))")
 w(f"  meets 𝓣 {kn} =")
 w(f"      walk-meets 𝓤 H A ended stayed W goes (clauses {TO} 𝓤) (WpFn 𝓤 H (𝓣 .C) (𝓣 .Λ) (function {KT})) (WpFn-mono 𝓤 H (W .laws) 𝓣 (function {KT})) (f-walks (𝓣 .C) (𝓣 .Λ) (fmOf 𝓤 H (W .laws) 𝓣) {kn})")
+lines = "\n".join(out).split("\n")
+others = {x.split(" as ")[-1] for l in lines if l.startswith("use ") and "{" in l for x in l[l.index("{") + 1:-1].split(", ")} | set(re.findall(r"^ *(?:abbrev )?(?:pub )?(\S+) : ", "\n".join(lines), re.M))
+for p in P: assert p["name"] not in others, f"the walk has another thing by the name {p['name']}: name the parameter otherwise"
 body = "\n".join(l for l in out if not l.strip().startswith(("use ", "--")))
 def used(x):
     n = re.split(r" as |use ", x)[-1].strip()
@@ -630,4 +634,4 @@ def pruned(line):
     if not m: return line if not line.startswith("use ") or used(line) else None
     names = [x for x in m[2].split(", ") if used(x)]
     return m[1] + "{" + ", ".join(names) + "}" if names else None
-print("\n".join(y for y in map(pruned, "\n".join(out).split("\n")) if y is not None))
+print("\n".join(y for y in map(pruned, lines) if y is not None))
