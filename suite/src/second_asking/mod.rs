@@ -1,10 +1,15 @@
-//! The asking side of 2026-04 a second time: writes requests.
+//! The asking side of 2026-04 a second time: writes requests and reads replies.
 //!
 //! It shares nothing with the proved library or with the second node, so that a mistake in one of them isn't repeated here.
 #![forbid(unsafe_code)]
 
+mod lists;
 mod packet;
 mod refusals;
+mod reply;
 mod request;
+mod table;
 
+pub use reply::{hear, Heard};
 pub use request::{ask, Masking, Request};
+pub use table::Learned;

@@ -151,6 +151,34 @@ impl Request {
                 | Request::RunFunction(_)
         )
     }
+
+    /// Whether the size of the answer comes from the learned table.
+    pub(super) fn table_counts(self) -> bool {
+        matches!(
+            self,
+            Request::ReadSum(_)
+                | Request::ReadVariable(_)
+                | Request::ReadGroup(_)
+                | Request::WriteRead { .. }
+                | Request::ReadBlock { .. }
+                | Request::RunFunction(_)
+        )
+    }
+
+    /// Whether E0 is the answer.
+    pub(super) fn is_only_done(self) -> bool {
+        matches!(
+            self,
+            Request::WriteVariable(_)
+                | Request::WriteGroup(_)
+                | Request::MaskVariable(..)
+                | Request::MaskGroup(..)
+                | Request::MakeGroup
+                | Request::RemoveGroups
+                | Request::WriteBlock { .. }
+                | Request::RenewSum(_)
+        )
+    }
 }
 
 fn id(number: usize) -> Option<u8> {
