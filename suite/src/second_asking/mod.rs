@@ -5,6 +5,7 @@
 
 mod learn;
 mod lists;
+mod numbers;
 mod packet;
 mod refusals;
 mod reply;
@@ -12,6 +13,7 @@ mod request;
 mod table;
 
 pub use learn::learn;
+pub use numbers::{signed, unsigned, write_signed, write_unsigned};
 pub use reply::{hear, Heard};
 pub use request::{ask, Masking, Request};
 pub use table::Learned;
