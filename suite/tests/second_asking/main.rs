@@ -1,0 +1,7 @@
+//! The second asking side, held against 2026-04 and the sentences of 01.
+mod answers;
+mod gateway;
+mod limits;
+mod lists;
+mod refusals;
+mod requests;
