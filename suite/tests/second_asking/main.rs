@@ -1,6 +1,7 @@
 //! The second asking side, held against 2026-04 and the sentences of 01.
 mod answers;
 mod gateway;
+mod learning;
 mod limits;
 mod lists;
 mod refusals;
