@@ -4,5 +4,6 @@ mod gateway;
 mod learning;
 mod limits;
 mod lists;
+mod numbers;
 mod refusals;
 mod requests;
