@@ -1,5 +1,6 @@
 //! The second asking side, held against 2026-04 and the sentences of 01.
 mod answers;
+mod anything;
 mod gateway;
 mod learning;
 mod limits;
