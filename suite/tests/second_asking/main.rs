@@ -1,6 +1,7 @@
 //! The second asking side, held against 2026-04 and the sentences of 01.
 mod answers;
 mod anything;
+mod board;
 mod gateway;
 mod learning;
 mod limits;
@@ -8,3 +9,4 @@ mod lists;
 mod numbers;
 mod refusals;
 mod requests;
+mod with_a_node;
