@@ -64,7 +64,7 @@ fn is_sized(request: Request) -> bool
 }
 
 // Refusals 2, 4 and 5, and 13 as far as it is not about the answer.
-fn open(destination: u8, reply: &[u8]) -> Opened
+pub fn open(destination: u8, reply: &[u8]) -> Opened
     ensures { λ r. ⌜ r ≡ openedOf destination (now (reply .entry)) ⌝ }
 {
     if !asking::is_address(destination) {
