@@ -34,7 +34,7 @@ pub record Ready (t : Table) (a : Place) (room : ℕ) (s : State) : Type 0 where
   pub place : usablePlace a ≡ true
   pub enough : 4104 ≤ room
 
-packed-message : (d : ℕ) (m : List ℕ) → message (packed d m) ≡ m
+pub packed-message : (d : ℕ) (m : List ℕ) → message (packed d m) ≡ m
 packed-message d m = take-at m (checksum (d ∷ m) ∷ []) (length (packed d m) - 2) (simp length-append (omega arith))
 
 place-clear : (t : Table) (a : Place) (room : ℕ) (s : State) → Ready t a room s → clear (placeTests a room)
