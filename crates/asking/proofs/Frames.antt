@@ -21,7 +21,7 @@ use Rattle.asking.specs.Request.{isMulticast, isAddress}
 use Rattle.asking.specs.Learned.{Learned, usableLearned}
 use Rattle.asking.specs.Reply.{Wanted, wanted, Heard, isError, errorReply, errorOf, isSized, isWhole, fitsWanted, heardIn, fits, hearingTests, Hearing, hears, hearing}
 use Rattle.asking.specs.declared.Request.{Request}
-use Rattle.asking.proofs.Lists.{and-both, in-range}
+use Rattle.asking.proofs.Lists.{and-both, in-range, between}
 
 -- a reply that is heard ------------------------------------------------------------------------------------------------------------
 abbrev pub codeIn : List ℕ → ℕ
@@ -73,9 +73,7 @@ pub record Own (d : ℕ) : Type 0 where
 
 pub own : (a : Place) → usablePlace a ≡ true → Own (a .own)
 unfolding usablePlace
-own a h =
-    let w = and-true (leb 1 (a .own)) (leb (a .own) 31) (and-true _ _ (and-true (within 1 31 (a .own) && _) _ h .0) .0) in
-    record { low = leb-true _ _ (w .0); high = leb-true _ _ (w .1) }
+own a h = let w = between 1 31 (a .own) (and-true _ _ (and-true (within 1 31 (a .own) && _) _ h .0) .0) in record { low = w .0; high = w .1 }
 
 module _ (x : Learned) (to : ℕ) (r : Request) (o : Own to) (table : (isSized (wanted x r) && not (usableLearned x)) ≡ false) (c : ℕ) (p : List ℕ) (n : length p ≤ 4099) where
   abbrev W : Wanted

@@ -5,3 +5,4 @@ pub mod Members
 pub mod Records
 pub mod Frames
 pub mod Answers
+pub mod Understood
