@@ -6,3 +6,5 @@ pub mod Records
 pub mod Frames
 pub mod Answers
 pub mod Understood
+pub mod Follows
+pub mod Learns
