@@ -8,3 +8,4 @@ pub mod Answers
 pub mod Understood
 pub mod Follows
 pub mod Learns
+pub mod Limits
