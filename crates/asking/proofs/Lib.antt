@@ -9,3 +9,6 @@ pub mod Understood
 pub mod Follows
 pub mod Learns
 pub mod Limits
+pub mod Places
+pub mod Numbers
+pub mod Order
