@@ -12,3 +12,5 @@ pub mod Limits
 pub mod Places
 pub mod Numbers
 pub mod Order
+pub mod Computes
+pub mod BoardA
