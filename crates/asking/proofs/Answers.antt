@@ -1,20 +1,18 @@
 -- Each form of a node's answer fits, and is read as what the node holds, while the learned table is the node's. Assumes nothing.
 use mathlib.Core.Path.{_≡_, refl, sym, ap, _∙_}
-use mathlib.Core.Bool.{Bool, true, false, not, _&&_}
-use mathlib.Core.List.{List, [], _∷_, _++_, map}
-use Prim.Native.Nat.{ℕ, suc, _+_, _-_, _*_, _≤_, _<_}
+use mathlib.Core.Bool.{true, false, _&&_}
+use mathlib.Core.List.{List, [], _∷_, map}
+use Prim.Native.Nat.{ℕ, suc, _-_, _*_, _≤_, _<_}
 use native.Mathlib.Omega.{arith}
 use native.Mathlib.Nat.{zero-add}
-use lib.Dec.{leb, ltb, eqb}
+use lib.Dec.{leb, eqb}
 use lib.ListN.{length, getD, length-map}
 use borrow.Author.Tests.{eq-eqb, leb-true, lt-ltb}
-use Rattle.bsmp.specs.Base.{upFrom, all, every, ascending, within, byteAt, word}
-use Rattle.bsmp.specs.Board.{variable, group, Table, Layout, layout, State, contentOf, sumOf, sizesOf, sizeOf, marked, members, writableGroup, groupCount, isType, blankCurve, curveOf, blockSizes, blockPlace}
+use Rattle.bsmp.specs.Base.{upFrom, all, every, within, byteAt, word}
+use Rattle.bsmp.specs.Board.{variable, group, Table, Layout, layout, State, contentOf, sumOf, sizeOf, marked, members, writableGroup, groupCount, isType, blankCurve, curveOf, blockSizes, blockPlace}
 use Rattle.bsmp.specs.Board.{usableSize, variableRules, usableCurve, curveRules, usable, usableVariables, usableCurves, usableFunctions}
-use Rattle.bsmp.specs.Message.{noGroup, Answer, say, tell, show, attest, call, listed, variableList, groupList, curveRecord, curveList, functionList, Said, replies, runs, spoken}
+use Rattle.bsmp.specs.Message.{Answer, say, tell, show, attest, call, listed, variableList, groupList, curveRecord, curveList, functionList, Said, replies, runs, spoken}
 use Rattle.bsmp.specs.Packet.{Ran}
-use Rattle.bsmp.specs.declared.VariableNumber.{VariableNumber}
-use Rattle.bsmp.specs.declared.GroupNumber.{GroupNumber}
 use Rattle.bsmp.specs.declared.CurveNumber.{CurveNumber}
 use Rattle.bsmp.proofs.Bools.{and-true, all-at}
 use Rattle.bsmp.proofs.Lists.{map-map, every-at, length-upFrom, map-numbers}
@@ -24,8 +22,8 @@ use Rattle.bsmp.proofs.Usable.{usable-parts, sizes-usable}
 use Rattle.bsmp.proofs.Stays.{block-size, sum-length}
 use Rattle.bsmp.proofs.Lengths.{in-range as lengths-in-range, content-length, place-known}
 use Rattle.bsmp.proofs.Room.{told-bytes, five-each, limits}
-use Rattle.asking.specs.Learned.{Learned, learnedOf, usableSizes, usableLearned, Slot, slot, slotOf, variableSlots, groupSlots, fitsCount, curvesFrom, functionsFrom}
-use Rattle.asking.specs.Reply.{Wanted, memberList, values, block, digest, output, Heard, isVariables, isGroups, isMembers, isCurves, isFunctions, isValues, holds, errorReply, answers, tells}
+use Rattle.asking.specs.Learned.{Learned, learnedOf, usableSizes, usableLearned, slot, slotOf, variableSlots, groupSlots, fitsCount, curvesFrom, functionsFrom}
+use Rattle.asking.specs.Reply.{Wanted, memberList, values, block, digest, output, isVariables, isGroups, isMembers, isCurves, isFunctions, isValues, holds, errorReply, answers, tells}
 use Rattle.asking.proofs.Lists.{and-both, in-range, between, map-numbered, every-numbered, numbers-again}
 use Rattle.asking.proofs.Members.{members-few, members-limited, count-fits}
 use Rattle.asking.proofs.Records.{slot-read, curves-read, functions-read, values-read}

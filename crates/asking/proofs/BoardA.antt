@@ -16,7 +16,7 @@ use Rattle.asking.specs.Reply.{value, isError, isDone, isVersion, isVari
 use Rattle.asking.specs.Learning.{blank, learning, learnsAll, lists}
 use Rattle.asking.specs.declared.Masking.the-variants.{Toggle}
 use Rattle.asking.specs.declared.Request.the-variants.{Version, ListVariables, ListGroups, ShowGroup, ListCurves, ReadSum, ListFunctions, ReadVariable, ReadGroup, WriteVariable}
-use Rattle.asking.specs.declared.Request.the-variants.{MaskVariable, WriteRead, MakeGroup, RemoveGroups, ReadBlock, WriteBlock, RunFunction}
+use Rattle.asking.specs.declared.Request.the-variants.{MaskVariable, WriteRead, MakeGroup, RemoveGroups, ReadBlock, RunFunction}
 use Rattle.asking.specs.declared.Told.the-variants as T
 use Rattle.asking.proofs.Computes.{computes}
 

@@ -1,17 +1,17 @@
 -- The learned table follows the node: after any written request the node's table is the learned one followed, and whoever hears the answer
 -- has it. Assumes nothing.
 use mathlib.Core.Path.{_≡_, refl, sym, ap, ap₂, _∙_}
-use mathlib.Core.Bool.{Bool, true, false, cond, not, _&&_}
+use mathlib.Core.Bool.{Bool, true, false, cond, not}
 use mathlib.Core.List.{List, [], _∷_, _++_, map}
-use Prim.Native.Nat.{ℕ, suc, _+_, _-_, _≤_, _<_}
+use Prim.Native.Nat.{ℕ, suc, _-_, _≤_, _<_}
 use native.Mathlib.Omega.{arith}
 use lib.Dec.{leb, ltb}
-use lib.ListN.{length, take, drop, getD, length-map, drop-of-length-le}
+use lib.ListN.{length, take, drop, length-map, drop-of-length-le}
 use lib.Seq.{take-all, take-length, split-at}
-use borrow.Author.Tests.{le-leb, lt-ltb, leb-true, leb-false, ltb-false, not-false}
-use Rattle.bsmp.specs.Base.{upFrom, every, some}
+use borrow.Author.Tests.{le-leb, lt-ltb, leb-true, leb-false, ltb-false}
+use Rattle.bsmp.specs.Base.{every, some}
 use Rattle.bsmp.specs.Codes.{commandOf}
-use Rattle.bsmp.specs.Board.{variable, group, Table, Layout, layout, State, members, writableGroup, groupCount, setOf, usable}
+use Rattle.bsmp.specs.Board.{variable, Table, Layout, layout, State, members, groupCount, setOf, usable}
 use Rattle.bsmp.specs.Message.{noVariable, testsOf, line, judge, after, stateAfter, carried, handled}
 use Rattle.bsmp.specs.Packet.{Place, Ending, reply, silence, run, served, packet, Ran, failed}
 use Rattle.bsmp.specs.declared.VariableNumber.{VariableNumber}
@@ -27,8 +27,8 @@ use Rattle.bsmp.proofs.Room.{limits}
 use Rattle.bsmp.proofs.Group.{members-known}
 use Rattle.bsmp.proofs.Wrong.{Ready}
 use Rattle.asking.specs.Request.{sorted, fieldsOf, messageFor, request, asking}
-use Rattle.asking.specs.Learned.{Learned, learnedOf, slot, groupSlots}
-use Rattle.asking.specs.Reply.{wanted, Heard, holds, Hearing, expected, Understood}
+use Rattle.asking.specs.Learned.{Learned, learnedOf, groupSlots}
+use Rattle.asking.specs.Reply.{wanted, Heard, holds, expected, Understood}
 use Rattle.asking.specs.Learning.{withMade, canGroup, regrouped, followed, taught, learning, heardEnding, changeFor}
 use Rattle.asking.specs.declared.Request.{Request}
 use Rattle.asking.specs.declared.Request.the-variants.{Version, ListVariables, ListGroups, ShowGroup, ListCurves, ReadSum, ListFunctions, ReadVariable, ReadGroup, WriteVariable, WriteGroup}

@@ -1,13 +1,13 @@
 -- A reply taken apart: what is known of one that is heard, and how a node's frame is heard. Assumes nothing.
 use mathlib.Core.Path.{_≡_, refl, sym, ap, _∙_}
-use mathlib.Core.Bool.{Bool, true, false, cond, not, _&&_, _||_, true≢false}
-use mathlib.Core.List.{List, [], _∷_, _++_}
-use Prim.Native.Nat.{ℕ, suc, _+_, _-_, _*_, _/_, _%_, _≤_, _<_}
+use mathlib.Core.Bool.{true, false, not, _&&_, true≢false}
+use mathlib.Core.List.{List, []}
+use Prim.Native.Nat.{ℕ, suc, _+_, _-_, _*_, _/_, _%_, _≤_}
 use native.Mathlib.Omega.{arith}
-use lib.Dec.{eqb, leb}
+use lib.Dec.{eqb}
 use lib.ListN.{length, drop}
-use borrow.Author.Tests.{eq-eqb, le-leb, lt-leb, le-ltb, leb-true, not-true, not-false}
-use Rattle.bsmp.specs.Base.{sum, within, byteAt, word}
+use borrow.Author.Tests.{eq-eqb, le-leb, lt-leb, le-ltb, not-true, not-false}
+use Rattle.bsmp.specs.Base.{sum, within, byteAt}
 use Rattle.bsmp.specs.Codes.{errorCode}
 use Rattle.bsmp.specs.Message.{messageOf}
 use Rattle.bsmp.specs.Packet.{Place, usablePlace, message, frame}
@@ -19,7 +19,7 @@ use Rattle.bsmp.proofs.Room.{frame-length, frame-sum}
 use Rattle.bsmp.proofs.Wrong.{packed-message}
 use Rattle.asking.specs.Request.{isMulticast, isAddress}
 use Rattle.asking.specs.Learned.{Learned, usableLearned}
-use Rattle.asking.specs.Reply.{Wanted, wanted, Heard, isError, errorReply, errorOf, isSized, isWhole, fitsWanted, heardIn, fits, hearingTests, Hearing, hears, hearing}
+use Rattle.asking.specs.Reply.{Wanted, wanted, Heard, errorReply, errorOf, isSized, isWhole, fitsWanted, heardIn, fits, hearingTests, Hearing, hears, hearing}
 use Rattle.asking.specs.declared.Request.{Request}
 use Rattle.asking.proofs.Lists.{and-both, in-range, between}
 

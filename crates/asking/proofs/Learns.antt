@@ -5,27 +5,27 @@ use mathlib.Core.List.{List, [], _∷_, _++_, map}
 use Prim.Native.Nat.{ℕ, zero, suc, _+_, _-_, _≤_, _<_}
 use native.Mathlib.Omega.{arith}
 use lib.Dec.{leb, lit≤}
-use lib.ListN.{length, take, drop, getD, length-map, length-take, drop-of-length-le}
+use lib.ListN.{length, take, getD, length-map, drop-of-length-le}
 use lib.Seq.{take-nil, take-take, take-suc, take-length, length-take-le}
 use borrow.Author.Tests.{le-leb, lt-ltb}
 use Rattle.bsmp.specs.Base.{upFrom, has, marksOf, first}
 use Rattle.bsmp.specs.Codes.{commandOf}
-use Rattle.bsmp.specs.Board.{variable, group, Table, Layout, layout, State, sizeOf, marked, isWritable, members, groupCount, setOf, usable}
+use Rattle.bsmp.specs.Board.{variable, group, Table, Layout, layout, State, sizeOf, marked, isWritable, members, groupCount, setOf}
 use Rattle.bsmp.specs.Message.{check, line, judge, handled}
-use Rattle.bsmp.specs.Packet.{Place, Ending, reply, silence, run, ends, served, packet, failed}
+use Rattle.bsmp.specs.Packet.{Place, Ending, reply, silence, run, ends, served, failed}
 use Rattle.bsmp.specs.declared.VariableNumber.{VariableNumber}
 use Rattle.bsmp.specs.declared.Function.{Function}
 use Rattle.bsmp.specs.declared.FunctionNumber.{FunctionNumber}
 use Rattle.bsmp.specs.declared.Check.the-variants.{Pass}
-use Rattle.bsmp.proofs.Lists.{map-map, map-numbers, length-upFrom}
+use Rattle.bsmp.proofs.Lists.{map-map, map-numbers}
 use Rattle.bsmp.proofs.Marks.{marks-below}
 use Rattle.bsmp.proofs.Room.{limits}
 use Rattle.bsmp.proofs.Wrong.{Ready}
 use Rattle.sets.proofs.Marks.{marks-has}
 use Rattle.asking.specs.Request.{fieldsOf, messageFor}
 use Rattle.asking.specs.Learned.{Learned, learnedOf, Slot, slot, variableSlots, groupSlots}
-use Rattle.asking.specs.Reply.{wanted, Heard, isVariables, isGroups, isMembers, isCurves, isFunctions, holds, answers, tells, Hearing, hears, hearing, expected, Understood}
-use Rattle.asking.specs.Learning.{withMade, canGroup, regrouped, withVariables, taught, learning, heardEnding, asks, learns, learnsAll, lists}
+use Rattle.asking.specs.Reply.{wanted, Heard, holds, answers, tells, hears, hearing, Understood}
+use Rattle.asking.specs.Learning.{withMade, regrouped, withVariables, taught, learning, heardEnding, learns, learnsAll, lists}
 use Rattle.asking.specs.declared.Request.{Request}
 use Rattle.asking.specs.declared.Request.the-variants.{ListVariables, ListGroups, ShowGroup, ListCurves, ListFunctions, RunFunction}
 use Rattle.asking.proofs.Written.{Writable}

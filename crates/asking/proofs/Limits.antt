@@ -1,13 +1,13 @@
 -- A learned table keeps 01's limits whatever is heard: by every reply, from any node. Assumes nothing.
-use mathlib.Core.Path.{_≡_, refl, sym, ap, _∙_}
+use mathlib.Core.Path.{_≡_, refl}
 use mathlib.Core.Bool.{Bool, true, false, cond, not, _&&_, _||_, false≢true}
 use mathlib.Core.List.{List, [], _∷_, _++_, map}
-use Prim.Native.Nat.{ℕ, suc, _+_, _-_, _*_, _^_, _≤_, _<_}
+use Prim.Native.Nat.{ℕ, suc, _-_, _*_, _^_, _≤_, _<_}
 use native.Mathlib.Omega.{arith}
 use lib.Dec.{leb, ltb, eqb}
-use lib.ListN.{length, take, drop, length-append, length-take, length-drop, length-map}
-use borrow.Author.Tests.{le-leb, lt-ltb, leb-true, ltb-true, ltb-false, not-true, not-false}
-use Rattle.bsmp.specs.Base.{all, every}
+use lib.ListN.{length, take, drop, length-append, length-take, length-drop}
+use borrow.Author.Tests.{le-leb, lt-ltb, leb-true, ltb-true, not-true, not-false}
+use Rattle.bsmp.specs.Base.{every}
 use Rattle.bsmp.specs.Board.{variable, Layout, setOf, usableCurves, usableFunctions, usableGroups}
 use Rattle.bsmp.specs.Message.{noVariable}
 use Rattle.bsmp.specs.declared.VariableNumber.{VariableNumber}
@@ -17,7 +17,7 @@ use Rattle.bsmp.proofs.Bools.{and-true, all-at}
 use Rattle.bsmp.proofs.Lists.{map-map}
 use Rattle.bsmp.proofs.Stays.{set-below, set-some, no-groups}
 use Rattle.asking.specs.Request.{fieldsOf}
-use Rattle.asking.specs.Learned.{Learned, usableSizes, usableLearned, Slot, slotOf, curvesFrom, functionsFrom}
+use Rattle.asking.specs.Learned.{Learned, usableSizes, usableLearned, slotOf, curvesFrom}
 use Rattle.asking.specs.Reply.{Wanted, memberList, values, block, digest, output, wanted, Heard, isError, errorReply, errorOf, answers, tells, hears, hearing}
 use Rattle.asking.specs.Learning.{withMade, canGroup, regrouped, followed, taught}
 use Rattle.asking.specs.declared.Request.{Request}

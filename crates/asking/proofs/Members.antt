@@ -1,5 +1,5 @@
 -- The members of a group: ascending, below 64, as many as 01 allows; and the set of a made group's members is the group. Assumes nothing.
-use mathlib.Core.Path.{_≡_, refl, sym, ap, ap₂, _∙_}
+use mathlib.Core.Path.{_≡_, refl, sym, ap, _∙_}
 use mathlib.Core.Bool.{Bool, true, false, cond, _&&_}
 use mathlib.Core.List.{List, [], _∷_, map}
 use Prim.Native.Nat.{ℕ, zero, suc, _+_, _-_, _^_, _≤_, _<_}
@@ -7,13 +7,13 @@ use native.Mathlib.Omega.{arith}
 use native.Mathlib.Decide.{ℕ-discrete}
 use lib.Dec.{leb, ltb}
 use lib.ListN.{length, getD, length-map}
-use borrow.Author.Tests.{eq-eqb, ne-eqb, le-leb, lt-ltb, leb-true, ltb-true}
+use borrow.Author.Tests.{eq-eqb, ne-eqb, lt-ltb, ltb-true}
 use Rattle.bsmp.specs.Base.{upFrom, every, some, only, ascending, has, marksOf}
 use Rattle.bsmp.specs.Board.{variable, group, Table, Layout, layout, State, marked, variables, isSame, inGroup, members, groupCount, setOf, usable, usableGroups}
 use Rattle.bsmp.specs.declared.VariableNumber.{VariableNumber}
 use Rattle.bsmp.specs.declared.GroupNumber.{GroupNumber}
 use Rattle.bsmp.proofs.Bools.{and-true}
-use Rattle.bsmp.proofs.Lists.{map-map, every-at, length-upFrom}
+use Rattle.bsmp.proofs.Lists.{map-map, every-at}
 use Rattle.bsmp.proofs.Usable.{usable-parts}
 use Rattle.bsmp.proofs.Room.{group-count, limits}
 use Rattle.bsmp.proofs.Wrong.{some-variable}

@@ -3,7 +3,7 @@
 use mathlib.Core.Path.{_≡_, refl, sym, ap, ap₂, _∙_}
 use mathlib.Core.Bool.{Bool, true, false, cond, _&&_, _||_}
 use mathlib.Core.List.{List, [], _∷_, map}
-use Prim.Native.Nat.{ℕ, zero, suc, _+_, _-_, _≤_, _<_}
+use Prim.Native.Nat.{ℕ, zero, suc, _-_, _<_}
 use native.Mathlib.Omega.{arith}
 use lib.Dec.{eqb}
 use lib.ListN.{length, take, drop, getD, length-map, List·getD-map}
@@ -18,9 +18,9 @@ use Rattle.bsmp.proofs.Bools.{and-true}
 use Rattle.bsmp.proofs.Store.{piece, lengths-cut}
 use Rattle.bsmp.proofs.Input.{drop-take}
 use Rattle.asking.specs.Learned.{Learned}
-use Rattle.asking.specs.Reply.{Wanted, values, wanted, Value, value, Heard, isError, isValues, errorReply, errorOf, answers, paired, tells, hears, hearing}
+use Rattle.asking.specs.Reply.{Wanted, values, wanted, Value, value, isError, isValues, errorReply, errorOf, answers, paired, tells, hears, hearing}
 use Rattle.asking.specs.declared.Request.{Request}
-use Rattle.asking.proofs.Frames.{codeIn, payloadIn, Taken, taken}
+use Rattle.asking.proofs.Frames.{codeIn, payloadIn, taken}
 
 pub payload-place : (q : List ℕ) → drop 3 (message q) ≡ take (length q - 5) (drop 4 q)
 payload-place q =

@@ -5,10 +5,10 @@ use mathlib.Core.List.{List, [], _∷_, _++_, map}
 use Prim.Native.Nat.{ℕ, zero, suc, _+_, _*_, _/_, _%_, _≤_, _<_}
 use native.Mathlib.Omega.{arith}
 use native.Mathlib.Decide.{ℕ-discrete}
-use lib.Dec.{leb, eqb}
+use lib.Dec.{leb}
 use lib.ListN.{length}
 use borrow.Author.Tests.{eq-eqb, ne-eqb, le-leb, lt-leb, leb-true}
-use Rattle.bsmp.specs.Base.{every, cut, join, within, bit, word}
+use Rattle.bsmp.specs.Base.{every, cut, join, within, bit}
 use Rattle.bsmp.specs.Board.{Table, layout, State, valueOf, sizeOf, isWritable, isType, usableCurve}
 use Rattle.bsmp.specs.Message.{listed, curveRecord, valuesOf}
 use Rattle.bsmp.specs.declared.VariableNumber.{VariableNumber}

@@ -1,8 +1,8 @@
 -- "While the learned table is the node's, each answer to such a request must be read as what the board holds or as the named error":
 -- for every request that can be written, and for a function's result. Assumes nothing.
-use mathlib.Core.Path.{_≡_, refl, ap, ap₂, _∙_}
+use mathlib.Core.Path.{_≡_, refl, ap, _∙_}
 use mathlib.Core.Bool.{Bool, true, false, not, _&&_, _||_}
-use mathlib.Core.List.{List, [], _∷_, _++_}
+use mathlib.Core.List.{List, [], _∷_}
 use Prim.Native.Nat.{ℕ, _+_, _*_, _/_, _%_, _≤_, _<_}
 use native.Mathlib.Omega.{arith}
 use lib.Dec.{eqb, lit≤}
@@ -16,7 +16,6 @@ use Rattle.bsmp.specs.Packet.{Place, refuse, packed, frame, ends, served, packe
 use Rattle.bsmp.specs.declared.FunctionNumber.{FunctionNumber}
 use Rattle.bsmp.specs.declared.WireError.{WireError}
 use Rattle.bsmp.specs.declared.Check.{Check}
-use Rattle.bsmp.specs.declared.Check.the-variants.{Pass, Fail}
 use Rattle.bsmp.proofs.Bools.{or-false}
 use Rattle.bsmp.proofs.Chain.{clear, clear-at, broken-at, first-clear}
 use Rattle.bsmp.proofs.Usable.{usable-clear}
@@ -26,7 +25,7 @@ use Rattle.bsmp.proofs.Room.{frame-length, limits, WellSent, handled-well}
 use Rattle.bsmp.proofs.Wrong.{Ready, unicast}
 use Rattle.asking.specs.Request.{fieldsOf, payloadOf, messageFor, request, asking}
 use Rattle.asking.specs.Learned.{Learned, learnedOf, usableLearned}
-use Rattle.asking.specs.Reply.{Wanted, output, wanted, isError, isResult, holds, answers, tells, isSized, hears, expected, Understood}
+use Rattle.asking.specs.Reply.{output, wanted, isError, isResult, holds, answers, tells, isSized, hears, expected, Understood}
 use Rattle.asking.specs.declared.Request.{Request}
 use Rattle.asking.specs.declared.Request.the-variants.{Version, ListVariables, ListGroups, ShowGroup, ListCurves, ReadSum, ListFunctions, ReadVariable, ReadGroup, WriteVariable, WriteGroup}
 use Rattle.asking.specs.declared.Request.the-variants.{MaskVariable, MaskGroup, WriteRead, MakeGroup, RemoveGroups, ReadBlock, WriteBlock, RenewSum, RunFunction}

@@ -5,15 +5,16 @@ use mathlib.Core.List.{List, [], _∷_, _++_, map, append-nil}
 use Prim.Native.Nat.{ℕ, _+_, _*_, _/_, _%_, _≤_, _<_}
 use native.Mathlib.Omega.{arith}
 use lib.Dec.{leb}
-use lib.ListN.{length}
-use borrow.Author.Tests.{leb-true, not-false}
-use Rattle.bsmp.specs.Base.{every, cut, join, word}
+use lib.ListN.{length, length-append}
+use borrow.Author.Tests.{leb-true, ltb-false, not-false}
+use Rattle.bsmp.specs.Base.{every, cut}
 use Rattle.bsmp.specs.Codes.{commandOf, operationOf}
 use Rattle.bsmp.specs.Board.{variable, Layout, sizeOf, members, setOf, blockPlace}
 use Rattle.bsmp.specs.Message.{edit, fill, regroup, Line, line}
 use Rattle.bsmp.specs.Packet.{packed}
 use Rattle.bsmp.proofs.Bools.{and-true}
 use Rattle.bsmp.proofs.Chain.{clear-at, first-case}
+use Rattle.bsmp.proofs.Room.{Sent, packed-sum}
 use Rattle.asking.specs.Request.{maskCode, sorted, Fields, fieldsOf, payloadOf, canWrite, messageFor, askingTests, Asking, request, asking}
 use Rattle.asking.specs.Learning.{operationFor, changeFor}
 use Rattle.asking.specs.declared.Masking.{Masking}
@@ -41,6 +42,22 @@ written to room r d q =
     first-case (λ z. z ≡ request q → Writable (fieldsOf r d) × (q ≡ packed to (messageFor r d))) (askingTests to room (fieldsOf r d)) Asking.refused
     (request (packed to (messageFor r d))) (λ e h. let z : _≡_ {A = ℕ} 0 1 = cc in absurd (omega arith))
     (λ c h. (writable (fieldsOf r d) (not-false _ (clear-at (askingTests to room (fieldsOf r d)) c 2)), cc))
+
+packed-length : (to : ℕ) (m : List ℕ) → length (packed to m) ≡ length m + 2
+packed-length to m = simp length-append (omega arith)
+
+-- and a packet that any node takes: all its bytes sum to 0 modulo 256, and it fits the buffer that was lent
+pub written-well : (to room : ℕ) (r : Request) (d q : List ℕ) → asking to room r d ≡ request q → Sent q × (length q ≤ room)
+unfolding asking
+written-well to room r d q =
+    first-case (λ z. z ≡ request q → Sent q × (length q ≤ room)) (askingTests to room (fieldsOf r d)) Asking.refused
+    (request (packed to (messageFor r d))) (λ e h. let z : _≡_ {A = ℕ} 0 1 = cc in absurd (omega arith))
+    (λ c h.
+    let same : q ≡ packed to (messageFor r d) = cc in
+    let w = writable (fieldsOf r d) (not-false _ (clear-at (askingTests to room (fieldsOf r d)) c 2)) in
+    let n = packed-length to (messageFor r d) in
+    let enough : 4104 ≤ room = ltb-false room 4104 (clear-at (askingTests to room (fieldsOf r d)) c 1) in
+    rw same ((omega (arith, w .few), packed-sum to (messageFor r d)), omega (arith, w .few)))
 
 -- a block's number in two bytes
 pub word-read : (n : ℕ) → n < 65536 → n / 256 % 256 * 256 + n % 256 ≡ n
