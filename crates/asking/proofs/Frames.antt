@@ -21,7 +21,7 @@ use Rattle.asking.specs.Request.{isMulticast, isAddress}
 use Rattle.asking.specs.Learned.{Learned, usableLearned}
 use Rattle.asking.specs.Reply.{Wanted, wanted, Heard, errorReply, errorOf, isSized, isWhole, fitsWanted, heardIn, fits, hearingTests, Hearing, hears, hearing}
 use Rattle.asking.specs.declared.Request.{Request}
-use Rattle.asking.proofs.Lists.{and-both, in-range, between}
+use Rattle.asking.proofs.Lists.{clash, and-both, in-range, between}
 
 -- a reply that is heard ------------------------------------------------------------------------------------------------------------
 abbrev pub codeIn : List ℕ → ℕ
@@ -39,7 +39,7 @@ pub taken : (x : Learned) (to : ℕ) (r : Request) (q : List ℕ) (h : Heard) �
 unfolding hearing
 taken x to r q h =
     first-case (λ z. z ≡ hears h → Taken x to r q h) (hearingTests x (wanted x r) to q) Hearing.refused
-    (hears (heardIn x (wanted x r) (codeIn q) (payloadIn q))) (λ e k. let z : _≡_ {A = ℕ} 0 1 = cc in absurd (omega arith))
+    (hears (heardIn x (wanted x r) (codeIn q) (payloadIn q))) (λ e k. absurd (clash cc))
     (λ c k.
     let f : fits x (wanted x r) to q ≡ true = not-false _ (clear-at (hearingTests x (wanted x r) to q) c 4) in
     let a = and-true _ (fitsWanted x (wanted x r) (codeIn q) (payloadIn q)) f in

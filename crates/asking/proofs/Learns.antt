@@ -14,7 +14,6 @@ use Rattle.bsmp.specs.Board.{variable, group, Table, Layout, layout, State, siz
 use Rattle.bsmp.specs.Message.{check, line, judge, handled}
 use Rattle.bsmp.specs.Packet.{Place, Ending, reply, silence, run, ends, served, failed}
 use Rattle.bsmp.specs.declared.VariableNumber.{VariableNumber}
-use Rattle.bsmp.specs.declared.Function.{Function}
 use Rattle.bsmp.specs.declared.FunctionNumber.{FunctionNumber}
 use Rattle.bsmp.specs.declared.Check.the-variants.{Pass}
 use Rattle.bsmp.proofs.Lists.{map-map, map-numbers}
@@ -25,17 +24,15 @@ use Rattle.sets.proofs.Marks.{marks-has}
 use Rattle.asking.specs.Request.{fieldsOf, messageFor}
 use Rattle.asking.specs.Learned.{Learned, learnedOf, Slot, slot, variableSlots, groupSlots}
 use Rattle.asking.specs.Reply.{wanted, Heard, holds, answers, tells, hears, hearing, Understood}
-use Rattle.asking.specs.Learning.{withMade, regrouped, withVariables, taught, learning, heardEnding, learns, learnsAll, lists}
+use Rattle.asking.specs.Learning.{withMade, regrouped, withVariables, withCurves, withFunctions, taught, learning, heardEnding, learns, learnsAll, lists}
 use Rattle.asking.specs.declared.Request.{Request}
 use Rattle.asking.specs.declared.Request.the-variants.{ListVariables, ListGroups, ShowGroup, ListCurves, ListFunctions, RunFunction}
+use Rattle.asking.proofs.Lists.{clash}
 use Rattle.asking.proofs.Written.{Writable}
 use Rattle.asking.proofs.Frames.{own}
 use Rattle.asking.proofs.Members.{group-again}
 use Rattle.asking.proofs.Understood.{served-so, message-understood}
 use Rattle.asking.proofs.Follows.{regrouped-at, can-be}
-
-clash : _≡_ {A = ℕ} 0 1 → ⊥
-clash h = omega arith
 
 -- the lists are heard alike with any table, or none
 abbrev Tableless : Request → Type 0
@@ -91,11 +88,17 @@ module _ (t : Table) (a : Place) (busy room : ℕ) (s : State) (ready : Ready t 
   unfolding judge check line commandOf first fieldsOf hearing answers tells wanted holds taught
   variables-learned x = list-taught x ListVariables (record { blocks = refl; few = lit≤ tt }) refl (λ f h. clash cc) (λ x y to q. refl) ∙ variables-so x
 
-  groups-learned : (x : Learned) → step (so-far x []) ListGroups ≡ so-far x []
+  groups-learned : (x : Learned) → step x ListGroups ≡ withMade x (take (length (groupSlots L G) - 3) (x .groups))
   unfolding judge check line commandOf first fieldsOf hearing answers tells wanted holds taught
-  groups-learned x =
-      list-taught (so-far x []) ListGroups (record { blocks = refl; few = lit≤ tt }) refl (λ f h. clash cc) (λ x y to q. refl)
-      ∙ ap (so-far x) (take-nil (length (groupSlots L G) - 3))
+  groups-learned x = list-taught x ListGroups (record { blocks = refl; few = lit≤ tt }) refl (λ f h. clash cc) (λ x y to q. refl)
+
+  curves-learned : (x : Learned) → step x ListCurves ≡ withCurves x (t .curves)
+  unfolding judge check line commandOf first fieldsOf hearing answers tells wanted holds taught
+  curves-learned x = list-taught x ListCurves (record { blocks = refl; few = lit≤ tt }) refl (λ f h. clash cc) (λ x y to q. refl)
+
+  functions-learned : (x : Learned) → step x ListFunctions ≡ withFunctions x (t .functions)
+  unfolding judge check line commandOf first fieldsOf hearing answers tells wanted holds taught
+  functions-learned x = list-taught x ListFunctions (record { blocks = refl; few = lit≤ tt }) refl (λ f h. clash cc) (λ x y to q. refl)
 
   -- a set is one of the variables alone
   set-same : (x : Learned) (is : List VariableNumber) → setOf (so-far x [] .layout) is ≡ setOf L is
@@ -131,21 +134,13 @@ module _ (t : Table) (a : Place) (busy room : ℕ) (s : State) (ready : Ready t 
       ap (λ y. learnsAll t a busy room s y (map (λ k. ShowGroup (group (3 + k))) (upFrom (suc k) n) ++ rest)) (member-learned x k (omega arith))
       ∙ members-learned x (suc k) n rest (omega arith)
 
-  curves-learned : (x : Learned) → step (so-far x G) ListCurves ≡ record { layout = record { sizes = L .sizes; writable = L .writable; curves = t .curves; functions = x .layout .functions }; groups = G }
-  unfolding judge check line commandOf first fieldsOf hearing answers tells wanted holds taught
-  curves-learned x = list-taught (so-far x G) ListCurves (record { blocks = refl; few = lit≤ tt }) refl (λ f h. clash cc) (λ x y to q. refl)
-
-  functions-learned : (fs : List Function) → step (record { layout = record { sizes = L .sizes; writable = L .writable; curves = t .curves; functions = fs }; groups = G }) ListFunctions ≡ learnedOf t s
-  unfolding judge check line commandOf first fieldsOf hearing answers tells wanted holds taught
-  functions-learned fs = list-taught _ ListFunctions (record { blocks = refl; few = lit≤ tt }) refl (λ f h. clash cc) (λ x y to q. refl)
-
   pub learns-all : (x : Learned) → learnsAll t a busy room s x (lists (length (s .groups))) ≡ learnedOf t s
   learns-all x =
       let rest = map (λ k. ShowGroup (group (3 + k))) (upFrom 0 (length G)) ++ ListCurves ∷ ListFunctions ∷ [] in
       ap (λ y. learnsAll t a busy room s (step y ListGroups) rest) (variables-learned x)
-      ∙ ap (λ y. learnsAll t a busy room s y rest) (groups-learned x)
+      ∙ ap (λ y. learnsAll t a busy room s y rest) (groups-learned (so-far x []) ∙ ap (so-far x) (take-nil (length (groupSlots L G) - 3)))
       ∙ members-learned x 0 (length G) (ListCurves ∷ ListFunctions ∷ []) (omega arith)
-      ∙ ap (λ y. step y ListFunctions) (curves-learned x) ∙ functions-learned (x .layout .functions)
+      ∙ ap (λ y. step y ListFunctions) (curves-learned (so-far x G)) ∙ functions-learned (withCurves (so-far x G) (t .curves))
 
   -- 02 alone leaves the node's table without its made groups: they are sets of variables, and are asked for anew
   pub variables-alone : learns t a busy room s (learnedOf t s) ListVariables ≡ withMade (learnedOf t s) []

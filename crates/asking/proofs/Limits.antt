@@ -37,7 +37,8 @@ LimitedTable x = Limited (x .layout .sizes) (x .layout .curves) (x .layout .func
 limited : (x : Learned) → usableLearned x ≡ true → LimitedTable x
 unfolding usableLearned
 limited x h =
-    let at : (k : ℕ) → _ = all-at (usableSizes (x .layout .sizes) ∷ usableCurves (x .layout .curves) ∷ usableFunctions (x .layout .functions) ∷ usableGroups (length (x .layout .sizes)) (x .groups) ∷ []) h in
+    let at =
+    all-at (usableSizes (x .layout .sizes) ∷ usableCurves (x .layout .curves) ∷ usableFunctions (x .layout .functions) ∷ usableGroups (length (x .layout .sizes)) (x .groups) ∷ []) h in
     record { sized = at 0; curved = at 1; called = at 2; grouped = at 3 }
 
 usable-so : (x : Learned) → LimitedTable x → usableLearned x ≡ true

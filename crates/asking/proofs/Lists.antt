@@ -12,6 +12,10 @@ use Rattle.bsmp.specs.Board.{variable}
 use Rattle.bsmp.specs.declared.VariableNumber.{VariableNumber}
 use Rattle.bsmp.proofs.Bools.{and-true}
 
+-- two constructors that differ, as `cc` tells it
+pub clash : _≡_ {A = ℕ} 0 1 → ⊥
+clash h = omega arith
+
 pub and-both : (a b : Bool) → a ≡ true → b ≡ true → (a && b) ≡ true
 and-both a b h k = rw (h, k)
 

@@ -20,6 +20,7 @@ use Rattle.bsmp.proofs.Input.{drop-take}
 use Rattle.asking.specs.Learned.{Learned}
 use Rattle.asking.specs.Reply.{Wanted, values, wanted, Value, value, isError, isValues, errorReply, errorOf, answers, paired, tells, hears, hearing}
 use Rattle.asking.specs.declared.Request.{Request}
+use Rattle.asking.proofs.Lists.{clash}
 use Rattle.asking.proofs.Frames.{codeIn, payloadIn, taken}
 
 pub payload-place : (q : List ℕ) → drop 3 (message q) ≡ take (length q - 5) (drop 4 q)
@@ -87,7 +88,7 @@ value-place x to r q b c is vs w k = rw (← payload-place q) (by (wanted x r) w
   where
     told : (e : Bool) → (e || (b && eqb (codeIn q) c && eqb (length (payloadIn q)) (sum (map (sizeOf (x .layout)) is)))) ≡ true
         → isValues vs ≡ cond e (isError (errorOf (codeIn q))) (isValues (paired is (cut (map (sizeOf (x .layout)) is) (payloadIn q)))) → ValuesAt x is (payloadIn q) vs
-    told true f s = let z : _≡_ {A = ℕ} 0 1 = cc in absurd (omega arith)
+    told true f s = absurd (clash cc)
     told false f s =
         let same : vs ≡ paired is (cut (map (sizeOf (x .layout)) is) (payloadIn q)) = cc in
         rw same (paired-values x is (payloadIn q) (eqb-true _ _ (and-true (b && eqb (codeIn q) c) _ f .1)))

@@ -22,6 +22,7 @@ use Rattle.asking.specs.declared.Masking.the-variants.{Set, Or, Clear, T
 use Rattle.asking.specs.declared.Request.{Request}
 use Rattle.asking.specs.declared.Request.the-variants.{Version, ListVariables, ListGroups, ShowGroup, ListCurves, ReadSum, ListFunctions, ReadVariable, ReadGroup, WriteVariable, WriteGroup}
 use Rattle.asking.specs.declared.Request.the-variants.{MaskVariable, MaskGroup, WriteRead, MakeGroup, RemoveGroups, ReadBlock, WriteBlock, RenewSum, RunFunction}
+use Rattle.asking.proofs.Lists.{clash}
 use Rattle.asking.proofs.Sorted.{sorted-set}
 
 -- what can be written: each block in two bytes, and no more payload than a packet takes
@@ -40,7 +41,7 @@ pub written : (to room : ℕ) (r : Request) (d q : List ℕ) → asking to room 
 unfolding asking
 written to room r d q =
     first-case (λ z. z ≡ request q → Writable (fieldsOf r d) × (q ≡ packed to (messageFor r d))) (askingTests to room (fieldsOf r d)) Asking.refused
-    (request (packed to (messageFor r d))) (λ e h. let z : _≡_ {A = ℕ} 0 1 = cc in absurd (omega arith))
+    (request (packed to (messageFor r d))) (λ e h. absurd (clash cc))
     (λ c h. (writable (fieldsOf r d) (not-false _ (clear-at (askingTests to room (fieldsOf r d)) c 2)), cc))
 
 packed-length : (to : ℕ) (m : List ℕ) → length (packed to m) ≡ length m + 2
@@ -51,7 +52,7 @@ pub written-well : (to room : ℕ) (r : Request) (d q : List ℕ) → asking to 
 unfolding asking
 written-well to room r d q =
     first-case (λ z. z ≡ request q → Sent q × (length q ≤ room)) (askingTests to room (fieldsOf r d)) Asking.refused
-    (request (packed to (messageFor r d))) (λ e h. let z : _≡_ {A = ℕ} 0 1 = cc in absurd (omega arith))
+    (request (packed to (messageFor r d))) (λ e h. absurd (clash cc))
     (λ c h.
     let same : q ≡ packed to (messageFor r d) = cc in
     let w = writable (fieldsOf r d) (not-false _ (clear-at (askingTests to room (fieldsOf r d)) c 2)) in
