@@ -278,7 +278,13 @@ pub fn hear(
 }
 
 // Where a variable's bytes stand in the answer to a read of a group: behind the head and the members before it.
-fn member_place(sizes: &[u8], writable: u64, made: &[u64], g: GroupNumber, i: VariableNumber) -> PlainPlace {
+fn member_place(
+    sizes: &[u8],
+    writable: u64,
+    made: &[u64],
+    g: GroupNumber,
+    i: VariableNumber,
+) -> PlainPlace {
     let variable = i.0;
     let group = g.0;
     if sizes.len() <= variable {
