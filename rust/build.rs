@@ -1,4 +1,4 @@
-//! Links the proved archive: from the folder that RATTLE_LIB names, else from where `rt staticlib bsmp_c` writes it.
+//! Links the proved archives, the node's and the asking side's: from the folder that RATTLE_LIB names, else from where `rt staticlib` writes them.
 use std::env;
 use std::path::{Path, PathBuf};
 use std::process::exit;
@@ -9,16 +9,19 @@ fn main() {
         || Path::new(env!("CARGO_MANIFEST_DIR")).join("../target/staticlib"),
         PathBuf::from,
     );
-    let archive = folder.join("libbsmp_c.a");
-    if !archive.is_file() {
-        eprintln!(
-            "{} is missing: run rt staticlib bsmp_c, or set RATTLE_LIB to the archive's folder",
-            archive.display()
-        );
-        exit(1);
-    }
-    println!("cargo:rerun-if-changed={}", archive.display());
     println!("cargo:rustc-link-search=native={}", folder.display());
-    println!("cargo:rustc-link-lib=static=bsmp_c");
-    println!("cargo:rustc-env=CRUACHVEL_ARCHIVE={}", archive.display());
+    for name in ["bsmp_c", "bsmp_ask"] {
+        let archive = folder.join(format!("lib{name}.a"));
+        if !archive.is_file() {
+            eprintln!(
+                "{} is missing: run rt staticlib {name}, or set RATTLE_LIB to the archives' folder",
+                archive.display()
+            );
+            exit(1);
+        }
+        println!("cargo:rerun-if-changed={}", archive.display());
+        println!("cargo:rustc-link-lib=static={name}");
+    }
+    let node = folder.join("libbsmp_c.a");
+    println!("cargo:rustc-env=CRUACHVEL_ARCHIVE={}", node.display());
 }

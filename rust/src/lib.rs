@@ -28,6 +28,7 @@
 
 mod board;
 mod entries;
+mod learned;
 mod node;
 mod outcome;
 pub mod raw;
@@ -42,6 +43,7 @@ pub use entries::{
     board_store, fresh_board, function_result, md5, packet, read_signed, read_unsigned,
     write_signed, write_unsigned,
 };
+pub use learned::Learned;
 pub use node::{Node, State};
 pub use outcome::{Outcome, Ran, Refusal};
 

@@ -2,7 +2,7 @@
 //!
 //! Duties that the safe functions of this crate keep, and that nothing checks here: every pointer is valid for its
 //! length (it may be null only where the length is 0), and what is lent to be written overlaps nothing else that is lent.
-use crate::{Groups, Variable, SUM_SIZE};
+use crate::{Groups, Learned, Variable, SUM_SIZE};
 use std::mem::{align_of, size_of};
 
 /// How a call ends, in numbers. What a kind has no use for is 0.
@@ -62,6 +62,75 @@ pub struct ToldSum {
     pub bytes: [u8; SUM_SIZE],
 }
 
+/// How writing a request ended.
+#[repr(C)]
+#[derive(Clone, Copy, Debug, PartialEq, Eq)]
+pub struct ToldAsked {
+    /// 0, or the number of the refusal.
+    pub refusal: u8,
+    /// How many bytes the request has, or 0 if refused.
+    pub length: usize,
+}
+
+/// What a reply says, in numbers. What a kind has no use for is 0.
+#[repr(C)]
+#[derive(Clone, Copy, Debug, PartialEq, Eq)]
+pub struct ToldHeard {
+    /// One of the fourteen below.
+    pub kind: u8,
+    /// The number of a local refusal.
+    pub refusal: u8,
+    /// The code of an error, E1 to E8, or a function's error byte.
+    pub error: u8,
+    /// The place in the reply from which what was heard stands.
+    pub place: usize,
+    /// How many bytes of it, or records of a list.
+    pub length: usize,
+}
+
+impl ToldHeard {
+    /// A local refusal.
+    pub const REFUSED: u8 = 0;
+    /// An error, E1 to E8.
+    pub const ERROR: u8 = 1;
+    /// E0: it is done.
+    pub const DONE: u8 = 2;
+    /// The version.
+    pub const VERSION: u8 = 3;
+    /// The variables, 03.
+    pub const VARIABLES: u8 = 4;
+    /// The groups, 05.
+    pub const GROUPS: u8 = 5;
+    /// The members of a group, 07.
+    pub const MEMBERS: u8 = 6;
+    /// The curves, 09.
+    pub const CURVES: u8 = 7;
+    /// The functions, 0D.
+    pub const FUNCTIONS: u8 = 8;
+    /// Values, 11 or 13.
+    pub const VALUES: u8 = 9;
+    /// A block, 41.
+    pub const BLOCK: u8 = 10;
+    /// A sum, 0B.
+    pub const SUM: u8 = 11;
+    /// A function's output, 51.
+    pub const OUTPUT: u8 = 12;
+    /// A function's error byte, 53.
+    pub const FAILED: u8 = 13;
+}
+
+/// Where a variable's bytes stand in a reply.
+#[repr(C)]
+#[derive(Clone, Copy, Debug, PartialEq, Eq)]
+pub struct ToldPlace {
+    /// 0, or the number of the refusal.
+    pub refusal: u8,
+    /// The place of its first byte, or 0 if refused.
+    pub place: usize,
+    /// How many bytes it has, or 0 if refused.
+    pub length: usize,
+}
+
 // The archive's layouts; a build in which they differ must not exist.
 const _: () = {
     assert!(size_of::<usize>() == 4 || size_of::<usize>() == 8);
@@ -73,6 +142,10 @@ const _: () = {
     assert!(size_of::<ToldSigned>() == 16 && align_of::<ToldSigned>() == 8);
     assert!(size_of::<ToldUnsigned>() == 16 && align_of::<ToldUnsigned>() == 8);
     assert!(size_of::<ToldSum>() == 16 && align_of::<ToldSum>() == 1);
+    assert!(size_of::<Learned>() == 272 && align_of::<Learned>() == 8);
+    assert!(size_of::<ToldAsked>() == 2 * size_of::<usize>());
+    assert!(size_of::<ToldHeard>() == 3 * size_of::<usize>());
+    assert!(size_of::<ToldPlace>() == 3 * size_of::<usize>());
 };
 
 extern "C" {
@@ -240,4 +313,82 @@ mod tests {
         let right = [0, 1, 2, word, 2 * word, 3 * word];
         assert_eq!(places.map(|place| place - start), right);
     }
+}
+
+// The asking side: the archive libbsmp_ask.a.
+extern "C" {
+    /// A request written, in numbers. `code` is 01's of the request; `number` the variable, group, curve or function that it names; `other` the
+    /// variable that 28 reads; `block` that of 40 and 41; `operation` that of 24 and 26. What a request has no use for counts for nothing.
+    pub fn bsmp_ask_packet(
+        destination: u8,
+        code: u8,
+        operation: u8,
+        number: usize,
+        other: usize,
+        block: usize,
+        bytes: *const u8,
+        bytes_length: usize,
+        packet: *mut u8,
+        room: usize,
+    ) -> ToldAsked;
+
+    /// A reply to such a request, heard and learned from.
+    pub fn bsmp_hear_reply(
+        learned: *mut Learned,
+        destination: u8,
+        code: u8,
+        operation: u8,
+        number: usize,
+        other: usize,
+        block: usize,
+        bytes: *const u8,
+        bytes_length: usize,
+        reply: *const u8,
+        reply_length: usize,
+    ) -> ToldHeard;
+
+    /// Where a member's bytes stand in the reply to a read of its group.
+    pub fn bsmp_hear_place(learned: *const Learned, group: usize, variable: usize) -> ToldPlace;
+
+    /// A value's bytes as a number, by the kinds that the gateway supplies, one for each variable.
+    pub fn bsmp_hear_signed(
+        learned: *const Learned,
+        kinds: *const u8,
+        kind_count: usize,
+        variable: usize,
+        bytes: *const u8,
+        bytes_length: usize,
+    ) -> ToldSigned;
+
+    /// The same for an unsigned one.
+    pub fn bsmp_hear_unsigned(
+        learned: *const Learned,
+        kinds: *const u8,
+        kind_count: usize,
+        variable: usize,
+        bytes: *const u8,
+        bytes_length: usize,
+    ) -> ToldUnsigned;
+
+    /// A number as a variable's bytes: 0, or the number of the refusal.
+    pub fn bsmp_ask_signed(
+        learned: *const Learned,
+        kinds: *const u8,
+        kind_count: usize,
+        variable: usize,
+        number: i64,
+        buffer: *mut u8,
+        room: usize,
+    ) -> u8;
+
+    /// The same for an unsigned one.
+    pub fn bsmp_ask_unsigned(
+        learned: *const Learned,
+        kinds: *const u8,
+        kind_count: usize,
+        variable: usize,
+        number: u64,
+        buffer: *mut u8,
+        room: usize,
+    ) -> u8;
 }

@@ -16,5 +16,6 @@ pub mod records;
 #[cfg(not(target_arch = "wasm32"))]
 pub mod run;
 pub mod second;
+pub mod second_asking;
 pub mod second_lent;
 pub mod whatif;

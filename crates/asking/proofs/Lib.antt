@@ -1,1 +1,17 @@
 pub mod Address
+pub mod Lists
+pub mod Sorted
+pub mod Written
+pub mod Members
+pub mod Records
+pub mod Frames
+pub mod Answers
+pub mod Understood
+pub mod Follows
+pub mod Learns
+pub mod Limits
+pub mod Places
+pub mod Numbers
+pub mod Order
+pub mod Computes
+pub mod BoardA

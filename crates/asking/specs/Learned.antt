@@ -1,10 +1,10 @@
 -- What is learned of a node: its layout, kinds left out, and its made groups; and the records of the lists (02, 2026-04). Assumes nothing.
-use mathlib.Core.Bool.{Bool, cond, _&&_, _||_}
+use mathlib.Core.Bool.{Bool, cond, _||_}
 use mathlib.Core.List.{List, [], _∷_, map}
 use Prim.Native.Nat.{ℕ, _+_, _*_, _/_, _%_}
 use lib.Dec.{leb, eqb}
 use lib.ListN.{length}
-use Rattle.bsmp.specs.Base.{sum, upFrom, all, every, within, byteAt}
+use Rattle.bsmp.specs.Base.{sum, upFrom, all, every, within}
 use Rattle.bsmp.specs.Board.{variable, group, Table, Layout, layout, State, sizeOf, marked, members, writableGroup, groupCount, usableSize, usableCurves, usableFunctions, usableGroups}
 use Rattle.bsmp.specs.declared.GroupNumber.{GroupNumber}
 use Rattle.bsmp.specs.declared.Curve.{Curve}

@@ -33,14 +33,14 @@ blank = record { layout = record { sizes = []; writable = 0; curves = []; functi
 abbrev pub withMade : Learned → List ℕ → Learned
 withMade x gs = record { layout = x .layout; groups = gs }
 
--- 01's limits of a made group: "each a non-empty set of declared variables", of which there are at most 64
+-- 01's limits of a made group: "each a non-empty set of declared variables"
 abbrev pub canGroup : Layout → List VariableNumber → Bool
-canGroup l is = leb (length (l .sizes)) 64 && ltb 0 (length is) && every (λ i. not (noVariable l i)) is
+canGroup l is = ltb 0 (length is) && every (λ i. not (noVariable l i)) is
 
--- the made groups with this one at place k, the next place included; a group that can't be there is not learned
+-- the made groups with this one at place k, the next place included; a group that can't be there, or of more than 64 variables, is not learned
 unfoldable pub regrouped : Learned → ℕ → List VariableNumber → List ℕ
 regrouped x k is =
-    cond (leb k (length (x .groups)) && ltb k 5 && canGroup (x .layout) is)
+    cond (leb (length (x .layout .sizes)) 64 && leb k (length (x .groups)) && ltb k 5 && canGroup (x .layout) is)
     (take k (x .groups) ++ setOf (x .layout) is ∷ drop (suc k) (x .groups)) (x .groups)
 
 -- those of groups 0 to 2 are known by the variables' types

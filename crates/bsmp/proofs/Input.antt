@@ -18,7 +18,7 @@ use Rattle.bsmp.specs.declared.Command.the-variants.{MaskVariable, MaskG
 use Rattle.bsmp.proofs.Chain.{first-case}
 use Rattle.bsmp.proofs.Accepted.{judge-case}
 
-drop-take : {A : Type 0} (a n : ℕ) (l : List A) → drop a (take n l) ≡ take (n - a) (drop a l)
+pub drop-take : {A : Type 0} (a n : ℕ) (l : List A) → drop a (take n l) ≡ take (n - a) (drop a l)
 drop-take zero n l = let e : n - 0 ≡ n = omega arith in rw e
 drop-take (suc a) zero l = let e : 0 - suc a ≡ 0 = omega arith in rw e
 drop-take (suc a) (suc n) [] = rw (take-nil (suc n - suc a))

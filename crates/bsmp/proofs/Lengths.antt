@@ -75,7 +75,7 @@ pub content-length : (t : Table) (s : State) → usable t s ≡ true → (k : �
 content-length t s u k = length-take-le (getD (s .lengths) k 0) (blockOf s k) (rw (block-bytes t s (usable-parts t s u) k) (in-range t s u .most k))
 
 -- a block written ------------------------------------------------------------------------------------------------------------
-place-known : (l : List ℕ) (k : ℕ) → 1 ≤ getD l k 0 → k < length l
+pub place-known : (l : List ℕ) (k : ℕ) → 1 ≤ getD l k 0 → k < length l
 place-known [] k h = absurd (omega (arith, h))
 place-known (x ∷ l) zero h = omega arith
 place-known (x ∷ l) (suc k) h = omega (arith, place-known l k h)

@@ -98,7 +98,7 @@ Small t s (show c front k) = length front + length (contentOf s k) ≤ 4099
 Small t s (attest c n) = length (sumOf s n) ≤ 4099
 Small t s (call f i) = Unit {0}
 
-five-each : (f : Curve → List ℕ) (cs : List Curve) → ((c : Curve) → length (f c) ≡ 5) → length (join (map f cs)) ≡ 5 * length cs
+pub five-each : (f : Curve → List ℕ) (cs : List Curve) → ((c : Curve) → length (f c) ≡ 5) → length (join (map f cs)) ≡ 5 * length cs
 five-each f [] h = refl
 five-each f (c ∷ cs) h = length-append (f c) _ ∙ ap₂ _+_ (h c) (five-each f cs h) ∙ omega arith
 
@@ -164,11 +164,11 @@ pub packed-sum : (d : ℕ) (m : List ℕ) → sum (packed d m) % 256 ≡ 0
 unfolding sum
 packed-sum d m = rw (sum-append (d ∷ m) (checksum (d ∷ m) ∷ [])) (omega arith)
 
-frame-sum : (c : ℕ) (p : List ℕ) → sum (frame c p) % 256 ≡ 0
+pub frame-sum : (c : ℕ) (p : List ℕ) → sum (frame c p) % 256 ≡ 0
 unfolding frame
 frame-sum c p = packed-sum 0 (messageOf c p)
 
-frame-length : (c : ℕ) (p : List ℕ) → length (frame c p) ≡ length p + 5
+pub frame-length : (c : ℕ) (p : List ℕ) → length (frame c p) ≡ length p + 5
 unfolding frame
 frame-length c p = simp length-append (omega arith)
 
@@ -185,7 +185,7 @@ spoken-well t s due (show c front k) u h = ends-well due c (front ++ contentOf s
 spoken-well t s due (attest c n) u h = ends-well due c (sumOf s n) h
 spoken-well t s due (call f i) u h = tt
 
-handled-well : (t : Table) (busy : ℕ) (m : List ℕ) (s : State) (due : Bool) → usable t s ≡ true → WellSent (ends due (handled (layout t) busy m s .says))
+pub handled-well : (t : Table) (busy : ℕ) (m : List ℕ) (s : State) (due : Bool) → usable t s ≡ true → WellSent (ends due (handled (layout t) busy m s .says))
 unfolding handled carried said stateAfter
 handled-well t busy m s due h =
     let l : Line = asked (layout t) (s .groups) m in

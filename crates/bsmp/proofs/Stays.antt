@@ -150,14 +150,14 @@ drop-rest : (n m : ℕ) (p : List ℕ) → not (eqb (length p) (n + m)) ≡ fals
 drop-rest n m p h = let e : length p ≡ n + m = eqb-true _ _ (not-false _ h) in simp length-drop (omega arith)
 
 -- the set of a new group: declared variables only, and not empty
-set-below : (l : Layout) (is : List VariableNumber) → setOf l is < 2 ^ length (l .sizes)
+pub set-below : (l : Layout) (is : List VariableNumber) → setOf l is < 2 ^ length (l .sizes)
 unfolding setOf
 set-below l is =
     let f : VariableNumber → Bool = λ i. some (isSame i) is in
     let e : length (map f (variables l)) ≡ length (l .sizes) = length-map (variables l) f ∙ length-map (upFrom 0 (length (l .sizes))) variable ∙ length-upFrom 0 (length (l .sizes)) in
     rw e at (marks-below (map f (variables l)))
 
-set-some : (l : Layout) (i : ℕ) (is : List VariableNumber) → i < length (l .sizes) → 0 < setOf l (variable i ∷ is)
+pub set-some : (l : Layout) (i : ℕ) (is : List VariableNumber) → i < length (l .sizes) → 0 < setOf l (variable i ∷ is)
 unfolding setOf
 set-some l i is h =
     let f : VariableNumber → Bool = λ j. some (isSame j) (variable i ∷ is) in
@@ -179,7 +179,7 @@ new-group l gs (x ∷ p) h a c d =
     rw (le-leb (length (gs ++ m ∷ [])) 5 (simp length-append (omega arith)))
     (every-last _ gs m (w .1) (rw (lt-ltb 0 m (set-some l x (map variable p) known)) (lt-ltb m (2 ^ n) (set-below l (map variable (x ∷ p))))))
 
-no-groups : (n : ℕ) → usableGroups n [] ≡ true
+pub no-groups : (n : ℕ) → usableGroups n [] ≡ true
 unfolding usableGroups
 no-groups n = refl
 

@@ -1,16 +1,18 @@
 -- A usable board, part by part and back, and its faults as an entry tests them. Proofs know Board's `rules` and `faults` by these laws alone, so that
 -- a further rule is a further part. Assumes nothing.
-use mathlib.Core.Path.{_≡_, ap}
+use mathlib.Core.Path.{_≡_, refl, ap}
 use mathlib.Core.Bool.{true, false, not}
-use mathlib.Core.List.{List, map}
+use mathlib.Core.List.{List, [], _∷_, map}
 use Prim.Native.Nat.{ℕ}
 use lib.ListN.{length}
 use borrow.Author.Tests.{not-false}
-use Rattle.bsmp.specs.Base.{first}
+use Rattle.bsmp.specs.Base.{every, first}
 use Rattle.bsmp.specs.Board.{Table, State, withGroups, sizesOf, blockSizes, sumSizes, fitting, wholeValues, wholeCurves, fitLengths, wholeSums, rules, usable, usableVariables, usableCurves, usableFunctions, usableGroups, faults}
+use Rattle.bsmp.specs.Board.{isType, usableSize, usableVariable, variableRules}
+use Rattle.bsmp.specs.declared.Variable.{Variable}
 use Rattle.bsmp.specs.declared.Refusal.{Refusal}
 use Rattle.bsmp.specs.declared.Refusal.the-variants.{BoardUnusable}
-use Rattle.bsmp.proofs.Bools.{or-false, all-at, not-so}
+use Rattle.bsmp.proofs.Bools.{or-false, and-true, all-at, not-so}
 use Rattle.bsmp.proofs.Chain.{clear, first-next, first-stop, first-end}
 use Rattle.bsmp.proofs.Store.{same-eq, same-refl}
 
@@ -75,3 +77,14 @@ pub usable-regrouped : (t : Table) (s : State) (gs : List ℕ) → usable t s �
 usable-regrouped t s gs h k =
     let u = usable-parts t s h in
     usable-whole t (withGroups s gs) (record { variables = u .variables; values = u .values; curves = u .curves; blocks = u .blocks; lengths = u .lengths; sums = u .sums; functions = u .functions; groups = k })
+
+-- each size of usable variables is one
+pub sizes-usable : (vs : List Variable) → usableVariables vs ≡ true → every usableSize (sizesOf vs) ≡ true
+unfolding usableVariables
+sizes-usable vs u = by vs (all-at (variableRules vs) u 1)
+  where
+    by : (vs : List Variable) → every usableVariable vs ≡ true → every usableSize (sizesOf vs) ≡ true
+    by [] h = refl
+    by (v ∷ vs) h =
+        let o = and-true (usableVariable v) _ h in
+        rw (and-true (isType (v .writable)) _ (and-true _ _ (o .0) .0) .1) (by vs (o .1))

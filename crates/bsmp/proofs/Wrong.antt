@@ -34,7 +34,7 @@ pub record Ready (t : Table) (a : Place) (room : ℕ) (s : State) : Type 0 where
   pub place : usablePlace a ≡ true
   pub enough : 4104 ≤ room
 
-packed-message : (d : ℕ) (m : List ℕ) → message (packed d m) ≡ m
+pub packed-message : (d : ℕ) (m : List ℕ) → message (packed d m) ≡ m
 packed-message d m = take-at m (checksum (d ∷ m) ∷ []) (length (packed d m) - 2) (simp length-append (omega arith))
 
 place-clear : (t : Table) (a : Place) (room : ℕ) (s : State) → Ready t a room s → clear (placeTests a room)
@@ -59,7 +59,7 @@ unicast t a busy room m s r h =
     ∙ first-clear (packetTests a (packed (a .own) m)) (refuse s) _ (packed-clear a m h)
     ∙ ap₂ (λ due x. served (layout t) busy due x s) (eq-eqb (a .own) (a .own) refl) (packed-message (a .own) m)
 
-some-variable : (t : Table) (s : State) → usable t s ≡ true → 1 ≤ length (t .variables)
+pub some-variable : (t : Table) (s : State) → usable t s ≡ true → 1 ≤ length (t .variables)
 unfolding usableVariables
 some-variable t s h = leb-true _ _ (and-true (leb 1 (length (t .variables))) _ (all-at (variableRules (t .variables)) (usable-parts t s h .variables) 0) .0)
 

@@ -20,6 +20,20 @@ pub struct Known {
     pub functions: u64,
 }
 
+// The table in one struct, as a gateway lends it.
+#[repr(C)]
+pub struct LearnedTable {
+    pub variables: u64,
+    pub writable: u64,
+    pub groups: u64,
+    pub curves: u64,
+    pub functions: u64,
+    pub sets: [u64; 5],
+    pub shapes: [u32; 24],
+    pub sizes: [u8; 64],
+    pub calls: [u8; 32],
+}
+
 // Whether there are 1 to 64 sizes of 1 to 127, together at most 4,096. A size is the low seven bits of a byte, as in list 03; no byte is
 // over `most`.
 pub fn usable_sizes(list: &[u8], most: u8) -> bool

@@ -246,7 +246,10 @@ fn learn(
         Request::WriteGroup(_) => known,
         Request::MaskVariable(_, _) => known,
         Request::MaskGroup(_, _) => known,
-        Request::WriteRead { written: _, read: _ } => known,
+        Request::WriteRead {
+            written: _,
+            read: _,
+        } => known,
         Request::ReadBlock { curve: _, block: _ } => known,
         Request::WriteBlock { curve: _, block: _ } => known,
         Request::RenewSum(_) => known,
@@ -271,7 +274,16 @@ pub fn hear(
         let y = tableOf (r .known) (now (sizes .exit)) (now (sets .exit)) (now (curves .exit)) (now (functions .exit)) in
         ⌜ heardLeft (r .told) y ≡ heardOf x destination request (now (bytes .entry)) (now (reply .entry)) ⌝ }
 {
-    let told = replies::read(known, sizes, sets, curves, functions, destination, request, reply);
+    let told = replies::read(
+        known,
+        sizes,
+        sets,
+        curves,
+        functions,
+        destination,
+        request,
+        reply,
+    );
     if !is_told(told) {
         return Heard { told, known };
     }

@@ -12,6 +12,7 @@ use Rattle.bsmp.specs.Board.{Table, layout, isType, sizesOf, usableVariable, us
 use Rattle.bsmp.specs.Store.{held}
 use Rattle.bsmp.specs.declared.Variable.{Variable}
 use Rattle.bsmp.proofs.Bools.{and-true}
+use Rattle.bsmp.proofs.Usable.{sizes-usable}
 use Rattle.copies.specs.Put.{put}
 use Rattle.copies.proofs.Put.{set-put}
 use Rattle.records.specs.Lending.{recordsBy, recordsOf, groupsBy, groupsOf, newGroupOf, tableOf, lent}
@@ -20,7 +21,6 @@ use Rattle.records.specs.declared.Groups.{Groups}
 use Rattle.records.specs.declared.NewGroup.{NewGroup}
 use Rattle.records.proofs.Lending.{record-count, sizes-lent, types-lent, group-count, group-at, groups-lent, made-count, layout-lent}
 use Rattle.records.proofs.Sound as R
-use Rattle.variables.proofs.Listing.{sizes-usable}
 use Rattle.judging.specs.Judging.{SoundBoard}
 use Rattle.serve.specs.Serve.{typedLayout, SoundTypes}
 use Rattle.changes.specs.Changes.{regrouped}

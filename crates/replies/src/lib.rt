@@ -64,7 +64,7 @@ fn is_sized(request: Request) -> bool
 }
 
 // Refusals 2, 4 and 5, and 13 as far as it is not about the answer.
-fn open(destination: u8, reply: &[u8]) -> Opened
+pub fn open(destination: u8, reply: &[u8]) -> Opened
     ensures { λ r. ⌜ r ≡ openedOf destination (now (reply .entry)) ⌝ }
 {
     if !asking::is_address(destination) {
@@ -469,9 +469,7 @@ fn answer(
         Request::WriteRead { written: _, read } => variable_told(sizes, read, code, payload),
         Request::MakeGroup => done(code, payload),
         Request::RemoveGroups => done(code, payload),
-        Request::ReadBlock { curve, block } => {
-            block_told(drawn, curve, block, code, payload)
-        }
+        Request::ReadBlock { curve, block } => { block_told(drawn, curve, block, code, payload) }
         Request::WriteBlock { curve: _, block: _ } => done(code, payload),
         Request::RenewSum(_) => done(code, payload),
         Request::RunFunction(f) => output_told(callable, f, code, payload),

@@ -48,7 +48,7 @@ set-lt n (i ∷ is) acc h b =
     (record { below = λ k g. b .below (suc k) (omega (arith, g)) })
 
 -- as the board has it
-some-named : (k : ℕ) (ids : List ℕ) → some (eqb k) ids ≡ some (isSame (variable k)) (map variable ids)
+pub some-named : (k : ℕ) (ids : List ℕ) → some (eqb k) ids ≡ some (isSame (variable k)) (map variable ids)
 some-named k [] = refl
 some-named k (i ∷ is) = ap (λ (x : Bool). eqb k i || x) (some-named k is)
 

@@ -1,12 +1,13 @@
--- Marks: single bits of a number, of its complement and of a union; a number from its bits. Assumes nothing.
+-- Marks: single bits of a number, of its complement and of a union; a number from its bits, and back. Assumes nothing.
 use mathlib.Core.Path.{_≡_, refl, sym, ap, ap₂, _∙_}
 use mathlib.Core.Bool.{Bool, true, false, not, _||_}
-use mathlib.Core.List.{_∷_, map}
+use mathlib.Core.List.{List, [], _∷_, map}
 use Prim.Native.Nat.{ℕ, zero, suc, _+_, _-_, _*_, _/_, _%_, _^_, max, _<_}
 use native.Mathlib.Nat.{div-div-eq-div-mul, pow-succ'}
 use native.Mathlib.Omega.{arith}
 use lib.Dec.{eqb, eqb·zero-suc, eqb·suc-zero, eqb·suc-suc}
 use lib.Bits.{bitOr, or-shr, or-step}
+use lib.ListN.{length}
 use Rattle.bsmp.specs.Base.{has, bit, marksOf, upFrom}
 
 -- the other marks are those of the half
@@ -75,6 +76,22 @@ marks-has zero m h = omega (arith, h)
 marks-has (suc n) m h =
     ap (λ x. bit (has m 0) + 2 * marksOf x) (has-up m 0 n)
     ∙ omega (arith, marks-has n (m / 2) (omega arith), has-low m)
+
+-- and the bits of the marks are the places that are on
+pub has-marks : (bs : List Bool) → map (has (marksOf bs)) (upFrom 0 (length bs)) ≡ bs
+has-marks [] = refl
+has-marks (b ∷ bs) =
+    let m : ℕ = bit b + 2 * marksOf bs in
+    ap₂ _∷_ (bit-same (has m 0) b (has-low m ∙ low b))
+    (has-up m 0 (length bs) ∙ ap (λ (x : ℕ). map (has x) (upFrom 0 (length bs))) (half b) ∙ has-marks bs)
+  where
+    low : (b : Bool) → (bit b + 2 * marksOf bs) % 2 ≡ bit b
+    low true = omega arith
+    low false = omega arith
+
+    half : (b : Bool) → (bit b + 2 * marksOf bs) / 2 ≡ marksOf bs
+    half true = omega arith
+    half false = omega arith
 
 -- a union
 pub has-or : (a b k : ℕ) → has (bitOr a b) k ≡ (has a k || has b k)

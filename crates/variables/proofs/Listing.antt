@@ -1,5 +1,5 @@
 -- The list of variables, byte after byte as the walk writes it. Assumes nothing.
-use mathlib.Core.Path.{_≡_, refl, sym, ap, _∙_}
+use mathlib.Core.Path.{_≡_, sym, ap, _∙_}
 use mathlib.Core.Bool.{Bool, true}
 use mathlib.Core.List.{List, [], _∷_}
 use Prim.Native.Nat.{ℕ, zero, suc, _+_, _≤_, _<_}
@@ -8,10 +8,9 @@ use lib.Dec.{leb}
 use lib.ListN.{length, getD, set, length-map}
 use borrow.Author.Tests.{leb-true}
 use Rattle.bsmp.specs.Base.{upFrom, every}
-use Rattle.bsmp.specs.Board.{variable, marked, isType, usableSize, usableVariable, usableVariables, variableRules, sizesOf}
+use Rattle.bsmp.specs.Board.{variable, marked, usableSize}
 use Rattle.bsmp.specs.Message.{listed, variableList}
-use Rattle.bsmp.specs.declared.Variable.{Variable}
-use Rattle.bsmp.proofs.Bools.{and-true, all-at}
+use Rattle.bsmp.proofs.Bools.{and-true}
 use Rattle.bsmp.proofs.Lists.{length-upFrom}
 use Rattle.bsmp.proofs.Marks.{at-number}
 use Rattle.parts.specs.Parts.{variablesOnly, PayloadAt}
@@ -22,16 +21,6 @@ pub size-small : (ns : List ℕ) (i : ℕ) → every usableSize ns ≡ true → 
 size-small [] i u h = absurd (omega (arith, h))
 size-small (n ∷ ns) zero u h = leb-true _ _ (and-true (leb 1 n) _ (and-true (usableSize n) _ u .0) .1)
 size-small (n ∷ ns) (suc i) u h = size-small ns i (and-true (usableSize n) _ u .1) (omega (arith, h))
-
-pub sizes-usable : (vs : List Variable) → usableVariables vs ≡ true → every usableSize (sizesOf vs) ≡ true
-unfolding usableVariables
-sizes-usable vs u = by vs (all-at (variableRules vs) u 1)
-  where
-    by : (vs : List Variable) → every usableVariable vs ≡ true → every usableSize (sizesOf vs) ≡ true
-    by [] h = refl
-    by (v ∷ vs) h =
-        let o = and-true (usableVariable v) _ h in
-        rw (and-true (isType (v .writable)) _ (and-true _ _ (o .0) .0) .1) (by vs (o .1))
 
 module _ (ns : List ℕ) (w : ℕ) where
   abbrev byteOf : ℕ → ℕ
