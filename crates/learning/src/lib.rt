@@ -1,16 +1,17 @@
 // What is learned by a reply: the lists taken over, whole or not at all, and an accepted 30 and 32 followed.
 use asking::Request;
 use asking::Told;
+use bsmp::Curve;
 use bsmp::GroupNumber;
 use learned::Known;
 ghost use mathlib.Core.Path.{_≡_};
 ghost use mathlib.Core.List.{map};
-ghost use Prim.Native.Nat.{_-_, _%_, _≤_, min};
+ghost use Prim.Native.Nat.{_-_, _*_, _%_, _≤_, min};
 ghost use lib.Dec.{leb, ltb};
 ghost use lib.ListN.{length};
 ghost use Rattle.bsmp.specs.Base.{every, marksOf};
 ghost use Rattle.copies.specs.Put.{put};
-ghost use Rattle.asking.specs.Learned.{curvesFrom};
+ghost use Rattle.asking.specs.Learned.{blocksOf, curvesFrom};
 ghost use Rattle.records.specs.Lending.{groupsBy, groupsOf};
 ghost use Rattle.learned.specs.Table.{tableOf};
 ghost use Rattle.learning.specs.Taking.{isTold, curvesTaken, functionsTaken, Regrouped, Shown, knownGroups, Answers, taughtBy, heardLeft, heardOf};
@@ -44,8 +45,8 @@ fn is_told(told: Told) -> bool
 }
 
 // The sizes of list 03, each into its place.
-fn take_sizes(list: &[u8], sizes: &mut [u8; 64])
-    requires { ⌜ length (now list) ≤ 64 ⌝ }
+fn take_sizes(list: &[u8], sizes: &mut [u8])
+    requires { ⌜ length (now list) ≤ length (now sizes) ⌝ }
     ensures { λ _. ⌜ now (sizes .exit) ≡ put (now (sizes .entry)) 0 (map (λ b. b % 128) (now (list .entry))) ⌝ }
 {
     let n = list.len();
@@ -70,16 +71,32 @@ fn marks_in(list: &[u8]) -> u64
     marks
 }
 
+// 65,536 blocks are sent as 0.
+fn blocks_of(n: u32) -> u32
+    ensures { λ r. ⌜ r ≡ blocksOf n ⌝ }
+{
+    if n == 0 {
+        return 65536;
+    }
+    n
+}
+
 // The curves of list 09, three numbers each.
-fn take_curves(list: &[u8], curves: &mut [u32; 24])
-    requires { ⌜ length (now list) ≤ 40 ⌝ }
+fn take_curves(list: &[u8], curves: &mut [u32])
+    requires { ⌜ 3 * length (now list) ≤ 5 * length (now curves) ⌝ }
     ensures { λ _. ⌜ now (curves .exit) ≡ put (now (curves .entry)) 0 (curvesTaken (curvesFrom (now (list .entry)))) ⌝ }
 {
     let n = list.len();
     let mut at = 0;
     let mut i = 0;
     while i + 4 < n {
-        let c = replies::curve_in(list, i);
+        let size = parts::word(list[i + 1], list[i + 2]) as u32;
+        let blocks = parts::word(list[i + 3], list[i + 4]) as u32;
+        let c = Curve {
+            writable: list[i] as u32,
+            size,
+            blocks: blocks_of(blocks),
+        };
         curves[at] = c.writable;
         curves[at + 1] = c.size;
         curves[at + 2] = c.blocks;
@@ -89,8 +106,8 @@ fn take_curves(list: &[u8], curves: &mut [u32; 24])
 }
 
 // The functions of list 0D, two numbers each.
-fn take_functions(list: &[u8], functions: &mut [u8; 32])
-    requires { ⌜ length (now list) ≤ 16 ⌝ }
+fn take_functions(list: &[u8], functions: &mut [u8])
+    requires { ⌜ 2 * length (now list) ≤ length (now functions) ⌝ }
     ensures { λ _. ⌜ now (functions .exit) ≡ put (now (functions .entry)) 0 (functionsTaken (now (list .entry))) ⌝ }
 {
     let n = list.len();
@@ -118,7 +135,8 @@ fn are_known(ids: &[u8], variables: u64) -> bool
 }
 
 // The group of these variables at a place, the next one included; it is left out where it can't be. How many there are then.
-fn put_group(variables: u64, groups: u64, sets: &mut [u64; 5], place: u64, ids: &[u8]) -> u64
+fn put_group(variables: u64, groups: u64, sets: &mut [u64], place: u64, ids: &[u8]) -> u64
+    requires { ⌜ length (now sets) ≡ 5 ⌝ }
     ensures { λ r. let before = groupsOf (groupsBy groups (now (sets .entry))) in
         ⌜ Regrouped variables before place (now (ids .entry)) (groupsOf (groupsBy r (now (sets .exit)))) ⌝ }
 {
@@ -147,7 +165,8 @@ fn put_group(variables: u64, groups: u64, sets: &mut [u64; 5], place: u64, ids: 
 }
 
 // The members of a group that was shown: those of 0 to 2 are known by the variables' types.
-fn show_group(variables: u64, groups: u64, sets: &mut [u64; 5], g: GroupNumber, ids: &[u8]) -> u64
+fn show_group(variables: u64, groups: u64, sets: &mut [u64], g: GroupNumber, ids: &[u8]) -> u64
+    requires { ⌜ length (now sets) ≡ 5 ⌝ }
     ensures { λ r. let before = groupsOf (groupsBy groups (now (sets .entry))) in
         ⌜ Shown variables before g (now (ids .entry)) (groupsOf (groupsBy r (now (sets .exit)))) ⌝ }
 {
@@ -199,7 +218,7 @@ fn learn(
 {
     match request {
         Request::ListVariables => {
-            take_sizes(payload, sizes);
+            take_sizes(payload, &mut sizes[..]);
             Known {
                 variables: payload.len() as u64,
                 writable: marks_in(payload),
@@ -210,11 +229,11 @@ fn learn(
         }
         Request::ListGroups => with_groups(known, fewer(known.groups, payload.len())),
         Request::ShowGroup(g) => {
-            let groups = show_group(known.variables, known.groups, sets, g, payload);
+            let groups = show_group(known.variables, known.groups, &mut sets[..], g, payload);
             with_groups(known, groups)
         }
         Request::ListCurves => {
-            take_curves(payload, curves);
+            take_curves(payload, &mut curves[..]);
             Known {
                 variables: known.variables,
                 writable: known.writable,
@@ -224,7 +243,7 @@ fn learn(
             }
         }
         Request::ListFunctions => {
-            take_functions(payload, functions);
+            take_functions(payload, &mut functions[..]);
             Known {
                 variables: known.variables,
                 writable: known.writable,
@@ -234,7 +253,7 @@ fn learn(
             }
         }
         Request::MakeGroup => {
-            let groups = put_group(known.variables, known.groups, sets, known.groups, ids);
+            let groups = put_group(known.variables, known.groups, &mut sets[..], known.groups, ids);
             with_groups(known, groups)
         }
         Request::RemoveGroups => with_groups(known, 0),
@@ -246,10 +265,7 @@ fn learn(
         Request::WriteGroup(_) => known,
         Request::MaskVariable(_, _) => known,
         Request::MaskGroup(_, _) => known,
-        Request::WriteRead {
-            written: _,
-            read: _,
-        } => known,
+        Request::WriteRead { written: _, read: _ } => known,
         Request::ReadBlock { curve: _, block: _ } => known,
         Request::WriteBlock { curve: _, block: _ } => known,
         Request::RenewSum(_) => known,
@@ -257,46 +273,3 @@ fn learn(
     }
 }
 
-// A reply to a request that went to this destination, heard: what it says, and the table after it. `bytes` are those that went with the
-// request.
-pub fn hear(
-    known: Known,
-    sizes: &mut [u8; 64],
-    sets: &mut [u64; 5],
-    curves: &mut [u32; 24],
-    functions: &mut [u8; 32],
-    destination: u8,
-    request: Request,
-    bytes: &[u8],
-    reply: &[u8],
-) -> Heard
-    ensures { λ r. let x = tableOf known (now (sizes .entry)) (now (sets .entry)) (now (curves .entry)) (now (functions .entry)) in
-        let y = tableOf (r .known) (now (sizes .exit)) (now (sets .exit)) (now (curves .exit)) (now (functions .exit)) in
-        ⌜ heardLeft (r .told) y ≡ heardOf x destination request (now (bytes .entry)) (now (reply .entry)) ⌝ }
-{
-    let told = replies::read(
-        known,
-        sizes,
-        sets,
-        curves,
-        functions,
-        destination,
-        request,
-        reply,
-    );
-    if !is_told(told) {
-        return Heard { told, known };
-    }
-    let end = reply.len() - 1;
-    let known = learn(
-        known,
-        sizes,
-        sets,
-        curves,
-        functions,
-        request,
-        bytes,
-        &reply[4..end],
-    );
-    Heard { told, known }
-}
