@@ -13,7 +13,7 @@ ghost use mathlib.Core.Path.{_≡_};
 ghost use mathlib.Core.Bool.{not, cond, _&&_};
 ghost use mathlib.Core.List.{[], _∷_};
 ghost use Prim.Native.Nat.{_+_, _*_, _≤_, _<_};
-ghost use lib.Dec.{ltb, eqb};
+ghost use lib.Dec.{leb, ltb, eqb};
 ghost use lib.ListN.{length};
 ghost use Rattle.bsmp.specs.Base.{upFrom, every, ascending, within, byteAt};
 ghost use Rattle.bsmp.specs.Board.{group, members, usableCurves};
@@ -309,6 +309,12 @@ fn curves(code: u8, payload: &[u8]) -> Told
     Told::Refused(Refusal::ReplyUnfit)
 }
 
+fn fit_functions(count: usize) -> bool
+    ensures { λ r. ⌜ r ≡ leb count 16 ⌝ }
+{
+    count <= 16
+}
+
 // 0D: at most 16 functions; four bits hold no more than 15.
 fn functions(code: u8, payload: &[u8]) -> Told
     ensures { λ r. ⌜ r ≡ toldOf (answered blank functionList code (now (payload .entry))) ⌝ }
@@ -316,10 +322,10 @@ fn functions(code: u8, payload: &[u8]) -> Told
     if code != 0x0D {
         return Told::Refused(Refusal::ReplyUnfit);
     }
-    if 16 < payload.len() {
-        return Told::Refused(Refusal::ReplyUnfit);
+    if fit_functions(payload.len()) {
+        return Told::Functions(payload.len());
     }
-    Told::Functions(payload.len())
+    Told::Refused(Refusal::ReplyUnfit)
 }
 
 // 11 or 13: so many bytes.
@@ -386,7 +392,7 @@ fn block_told(curves: &[u32], c: CurveNumber, k: usize, code: u8, payload: &[u8]
     if payload[0] as usize != number {
         return Told::Refused(Refusal::ReplyUnfit);
     }
-    if parts::word(payload[1], payload[2]) != k {
+    if parts::word(payload[1], payload[2]) != k % 65536 {
         return Told::Refused(Refusal::ReplyUnfit);
     }
     let size = records::curve_at(curves, c).size as usize;
