@@ -1,6 +1,6 @@
 -- An answer that fits is told, any other is refused; and what the tests of an answer come to. Assumes nothing.
 use mathlib.Core.Path.{_≡_, refl, sym, ap, _∙_}
-use mathlib.Core.Bool.{Bool, true, false, cond, not, _&&_, and-true as and-on}
+use mathlib.Core.Bool.{Bool, true, false, cond, not, _&&_, _||_, and-false, and-true as and-on}
 use mathlib.Core.List.{List, [], _∷_, map}
 use Prim.Native.Nat.{ℕ, zero, suc, _+_, _-_, _*_, _/_, _%_, _≤_, _<_}
 use native.Mathlib.Omega.{arith}
@@ -10,15 +10,18 @@ use lib.Seq.{getD-take}
 use borrow.Author.Tests.{lt-ltb, le-ltb, le-leb, lt-leb, eq-eqb, ne-eqb}
 use mir.Syntax.{w8}
 use mir.Val.{Fits}
-use Rattle.bsmp.specs.Base.{sum, every, same, within, word}
+use Rattle.bsmp.specs.Base.{sum, every, same, within, byteAt, word}
 use Rattle.bsmp.specs.Board.{usableFunctions}
 use Rattle.bsmp.specs.declared.Curve.{Curve}
+use Rattle.bsmp.specs.Packet.{gave, failed}
+use Rattle.bsmp.specs.declared.FunctionNumber.{FunctionNumber}
+use Rattle.bsmp.specs.declared.Function.{Function}
 use Rattle.bsmp.specs.declared.Refusal.the-variants.{ReplyUnfit}
 use Rattle.bsmp.proofs.Bools.{not-so}
 use Rattle.bsmp.proofs.Store.{same-refl, same-eq}
 use Rattle.rules.proofs.Checks.{both-on, left-off, right-off}
-use Rattle.asking.specs.Learned.{usableSizes, slotOf, functionsFrom}
-use Rattle.asking.specs.Reply.{Heard, hears, Hearing, toldOf}
+use Rattle.asking.specs.Learned.{usableSizes, slotOf, blocksOf, functionsFrom}
+use Rattle.asking.specs.Reply.{Heard, isResult, errorReply, hears, Hearing, toldOf}
 use Rattle.asking.specs.declared.Told.{Told}
 use Rattle.asking.specs.declared.Told.the-variants as T
 
@@ -143,3 +146,53 @@ functions-fit p r v h e k = rw (length-map, ← e, four-bits p h, k) (and-on v)
 
 pub functions-told : (p : List ℕ) → T.Functions (length p) ≡ T.Functions (length (functionsFrom p))
 functions-told p = rw length-map
+
+-- 65,536 blocks are sent as 0
+module _ (n : ℕ) where
+  pub blocks-most : n ≡ 0 → 65536 ≡ blocksOf n
+  blocks-most h = rw (eq-eqb n 0 h)
+
+  pub blocks-same : (n ≡ 0 → ⊥) → n ≡ blocksOf n
+  blocks-same h = rw (ne-eqb n 0 h)
+
+-- a function's result: v is its record, c the code
+module _ (c n : ℕ) (x v : Function) (e : v ≡ x) where
+  abbrev Results : Bool → Type 0
+  Results b = ((eqb c 0x51 && eqb n (x .output)) || (eqb c 0x53 && eqb n 1)) ≡ b
+
+  pub output-size : c ≡ 0x51 → (n ≡ v .output → ⊥) → Results false
+  output-size h k = rw (← e, h, ne-eqb n (v .output) k)
+
+  pub output-whole : c ≡ 0x51 → n ≡ v .output → Results true
+  output-whole h k = rw (← e, h, eq-eqb n (v .output) k)
+
+module _ (c n o : ℕ) (h : c ≡ 0x51 → ⊥) where
+  pub output-code : (c ≡ 0x53 → ⊥) → ((eqb c 0x51 && eqb n o) || (eqb c 0x53 && eqb n 1)) ≡ false
+  output-code k = rw (ne-eqb c 0x51 h, ne-eqb c 0x53 k)
+
+  pub failed-size : c ≡ 0x53 → (n ≡ 1 → ⊥) → ((eqb c 0x51 && eqb n o) || (eqb c 0x53 && eqb n 1)) ≡ false
+  failed-size k z = rw (k, ne-eqb n 1 z)
+
+  pub failed-whole : c ≡ 0x53 → n ≡ 1 → ((eqb c 0x51 && eqb n o) || (eqb c 0x53 && eqb n 1)) ≡ true
+  failed-whole k z = rw (k, z)
+
+module _ (f : FunctionNumber) (c : ℕ) (p : List ℕ) where
+  abbrev Tells : Told → Type 0
+  Tells t = t ≡ toldOf (hears (isResult f (cond (eqb c 0x51) (gave p) (failed (byteAt p 0)))))
+
+  pub output-told : c ≡ 0x51 → Tells (T.Output (length p))
+  output-told h = rw h
+
+  pub failed-told : (c ≡ 0x51 → ⊥) → Tells (T.Failed (getD p 0 0))
+  failed-told h = rw (ne-eqb c 0x51 h)
+
+-- the returns of `is_error`
+module _ (c : ℕ) (p : List ℕ) where
+  pub error-below : c < 0xE1 → false ≡ errorReply c p
+  error-below h = rw (lt-leb 0xE1 c h)
+
+  pub error-above : 0xE8 < c → false ≡ errorReply c p
+  error-above h = rw (lt-leb c 0xE8 h, and-false (leb 0xE1 c))
+
+  pub error-empty : 0xE1 ≤ c → c ≤ 0xE8 → eqb (length p) 0 ≡ errorReply c p
+  error-empty h k = rw (le-leb 0xE1 c h, le-leb c 0xE8 k)

@@ -21,7 +21,7 @@ ghost use Rattle.bsmp.specs.Message.{noVariable, noGroup};
 ghost use Rattle.asking.specs.Learned.{slotOf, fitsCount, blocksOf, curvesFrom};
 ghost use Rattle.asking.specs.declared.Told.the-variants as T;
 ghost use Rattle.bsmp.specs.declared.Refusal.the-variants.{ReplyUnfit};
-ghost use Rattle.asking.specs.Reply.{done, version, variableList, groupList, memberList, curveList, functionList, values, block, digest, output, wanted, errorOf, toldOf, hearing};
+ghost use Rattle.asking.specs.Reply.{done, version, variableList, groupList, memberList, curveList, functionList, values, block, digest, output, wanted, errorReply, errorOf, toldOf, hearing};
 ghost use Rattle.asking.specs.Learning.{blank};
 ghost use Rattle.learned.specs.Table.{tableOf, tableIn};
 ghost use Rattle.replies.specs.Reading.{sizedRequest, answered, openedOf, messageHeard, heardBy, curveIn};
@@ -93,6 +93,19 @@ fn open(destination: u8, reply: &[u8]) -> Opened
         return Opened::Refused(Refusal::ReplyUnfit);
     }
     Opened::Message
+}
+
+// Whether a reply is an error: E1 to E8 with no payload.
+fn is_error(code: u8, payload: &[u8]) -> bool
+    ensures { λ r. ⌜ r ≡ errorReply code (now (payload .entry)) ⌝ }
+{
+    if code < 0xE1 {
+        return false;
+    }
+    if 0xE8 < code {
+        return false;
+    }
+    payload.len() == 0
 }
 
 // The error of a code from E1 to E8.
@@ -499,12 +512,8 @@ fn told(
     ensures { λ r. let x = tableIn (now (sizes .entry)) writable (now (made .entry)) (now (drawn .entry)) (now (callable .entry)) in
         ⌜ r ≡ toldOf (messageHeard x (wanted x request) code (now (payload .entry))) ⌝ }
 {
-    if payload.len() == 0 {
-        if 0xE1 <= code {
-            if code <= 0xE8 {
-                return Told::Error(error_of(code));
-            }
-        }
+    if is_error(code, payload) {
+        return Told::Error(error_of(code));
     }
     answer(
         sizes,

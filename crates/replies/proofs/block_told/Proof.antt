@@ -1,5 +1,5 @@
 -- `block_told` meets its contract. Assumes nothing.
-use native.Mathlib.Omega.{arith}
+use mir.Facts.{fits-widen}
 use borrow.Author.Needs.{needs}
 use Rattle.asking.specs.Reply.{answers, tells}
 use Rattle.replies.proofs.Fitting.{unfits, fits, known-on, known-off, block-empty, block-curve, block-number, block-over, block-named, block-within, block-bytes}
@@ -16,7 +16,7 @@ block-told-spec =
     (λ c. search (unfits, needs))
     (λ c. search (unfits, block-empty, needs))
     (λ c. search needs)
-    (λ c. omega (arith, c .shared-slice-known3 .given 0))
+    (λ c. fits-widen tt (c .shared-slice-known3 .given _))
     (λ c. search (unfits, block-curve, needs))
     (λ c. search needs)
     (λ c. search needs)
