@@ -10,7 +10,7 @@ use lib.Seq.{drop-cons}
 use mir.Syntax.{w32}
 use mir.Val.{Fits}
 use borrow.Author.Tests.{le-leb, lt-leb, eq-eqb, ne-eqb, eqb-true, not-true, not-false}
-use Rattle.bsmp.specs.Base.{sum, every, all}
+use Rattle.bsmp.specs.Base.{sum, every, all, wordAt}
 use Rattle.bsmp.specs.Board.{usableCurve, curveRules, usableCurves}
 use Rattle.bsmp.specs.declared.Curve.{Curve}
 use Rattle.bsmp.proofs.Bools.{and-true}
@@ -46,6 +46,10 @@ module _ (p : List ℕ) (i : ℕ) where
       by (a ∷ b ∷ c ∷ []) k = refl
       by (a ∷ b ∷ c ∷ d ∷ []) k = refl
       by (a ∷ b ∷ c ∷ d ∷ e ∷ l) k = absurd (omega (arith, k))
+
+-- a record at place i, from its fields
+pub five-told : (p : List ℕ) (i s m k : ℕ) → s ≡ wordAt p (i + 1) → m ≡ wordAt p (i + 3) → k ≡ blocksOf m → record { writable = getD p i 0; size = s; blocks = k } ≡ curveIn p i
+five-told p i s m k e f g = rw (g, f, e)
 
 -- at place i: the curves before it have s bytes
 pub record Stepped (p : List ℕ) (s i : ℕ) : Type 0 where

@@ -122,8 +122,17 @@ module _ (to : ℕ) (q : List ℕ) (o : Opened) (h : o ≡ openedOf to q) where
       never : (x : Refusal) → Refused x ≡ Message → ⊥
       never x k = let z : _≡_ {A = ℕ} 0 1 = cc in omega arith
 
--- its code, and its payload as a part of the reply
+-- its code, and its payload as a part of the reply, `&reply[4..reply.len() - 1]`
 module _ (q : List ℕ) (h : 5 ≤ length q) where
+  pub message-end : 1 ≤ length q
+  message-end = omega arith
+
+  pub message-code : 1 < length q
+  message-code = omega arith
+
+  pub message-payload : 4 ≤ length q - 1
+  message-payload = omega arith
+
   pub code-at : getD q 1 0 ≡ byteAt (message q) 0
   code-at = sym (message-at q 0 (omega arith))
 

@@ -15,7 +15,7 @@ ghost use mathlib.Core.List.{[], _∷_};
 ghost use Prim.Native.Nat.{_+_, _*_, _≤_, _<_};
 ghost use lib.Dec.{leb, ltb, eqb};
 ghost use lib.ListN.{length};
-ghost use Rattle.bsmp.specs.Base.{upFrom, every, ascending, within, byteAt};
+ghost use Rattle.bsmp.specs.Base.{upFrom, every, ascending, within, byteAt, wordAt};
 ghost use Rattle.bsmp.specs.Board.{group, members, usableCurves};
 ghost use Rattle.bsmp.specs.Message.{noVariable, noGroup};
 ghost use Rattle.asking.specs.Learned.{slotOf, fitsCount, blocksOf, curvesFrom};
@@ -23,7 +23,7 @@ ghost use Rattle.asking.specs.declared.Told.the-variants as T;
 ghost use Rattle.bsmp.specs.declared.Refusal.the-variants.{ReplyUnfit};
 ghost use Rattle.asking.specs.Reply.{done, version, variableList, groupList, memberList, curveList, functionList, values, block, digest, output, wanted, errorReply, errorOf, toldOf, hearing};
 ghost use Rattle.asking.specs.Learning.{blank};
-ghost use Rattle.learned.specs.Table.{tableOf, tableIn};
+ghost use Rattle.learned.specs.Table.{Few, tableOf, tableIn};
 ghost use Rattle.replies.specs.Reading.{sizedRequest, answered, openedOf, messageHeard, heardBy, curveIn};
 
 // What a reply yields: a message, whose SIZE is right and which stands from place 1 up to the last byte, or its refusal.
@@ -271,17 +271,23 @@ fn blocks_of(n: u32) -> u32
     n
 }
 
+// A two-byte field of a payload.
+fn word_at(payload: &[u8], at: usize) -> u32
+    requires { ⌜ at + 1 < length (now payload) ⌝ }
+    ensures { λ r. ⌜ r ≡ wordAt (now (payload .entry)) at ⌝ }
+{
+    parts::word(payload[at], payload[at + 1]) as u32
+}
+
 // A curve's record of five bytes, from a place on.
 pub fn curve_in(payload: &[u8], at: usize) -> Curve
     requires { ⌜ at + 5 ≤ length (now payload) ⌝ }
     ensures { λ r. ⌜ r ≡ curveIn (now (payload .entry)) at ⌝ }
 {
-    let size = parts::word(payload[at + 1], payload[at + 2]) as u32;
-    let blocks = parts::word(payload[at + 3], payload[at + 4]) as u32;
     Curve {
         writable: payload[at] as u32,
-        size,
-        blocks: blocks_of(blocks),
+        size: word_at(payload, at + 1),
+        blocks: blocks_of(word_at(payload, at + 3)),
     }
 }
 
@@ -560,6 +566,41 @@ fn read_by(
     }
 }
 
+// The same with a table that has no more of each than there are places.
+fn read_in(
+    known: Known,
+    sizes: &[u8; 64],
+    sets: &[u64; 5],
+    curves: &[u32; 24],
+    functions: &[u8; 32],
+    destination: u8,
+    request: Request,
+    reply: &[u8],
+) -> Told
+    requires { ⌜ Few known ⌝ }
+    ensures { λ r. let x = tableOf known (now (sizes .entry)) (now (sets .entry)) (now (curves .entry)) (now (functions .entry)) in
+        ⌜ r ≡ toldOf (heardBy x (wanted x request) destination (now (reply .entry))) ⌝ }
+{
+    let all_sizes = &sizes[..];
+    let all_sets = &sets[..];
+    let all_curves = &curves[..];
+    let all_functions = &functions[..];
+    let n = known.variables as usize;
+    let g = known.groups as usize;
+    let c = 3 * known.curves as usize;
+    let f = 2 * known.functions as usize;
+    read_by(
+        &all_sizes[0..n],
+        known.writable,
+        &all_sets[0..g],
+        &all_curves[0..c],
+        &all_functions[0..f],
+        destination,
+        request,
+        reply,
+    )
+}
+
 // A reply to a request that went to this destination. Where the table doesn't count, none is looked at.
 pub fn read(
     known: Known,
@@ -574,35 +615,27 @@ pub fn read(
     ensures { λ r. let x = tableOf known (now (sizes .entry)) (now (sets .entry)) (now (curves .entry)) (now (functions .entry)) in
         ⌜ r ≡ toldOf (hearing x destination request (now (reply .entry))) ⌝ }
 {
-    let all_sizes = &sizes[..];
-    let all_sets = &sets[..];
-    let all_curves = &curves[..];
-    let all_functions = &functions[..];
-    if is_sized(request) {
-        if !learned::usable_table(known, sizes, sets, curves, functions) {
-            return Told::Refused(Refusal::BoardUnusable);
-        }
-        let n = known.variables as usize;
-        let g = known.groups as usize;
-        let c = 3 * known.curves as usize;
-        let f = 2 * known.functions as usize;
-        return read_by(
-            &all_sizes[0..n],
-            known.writable,
-            &all_sets[0..g],
-            &all_curves[0..c],
-            &all_functions[0..f],
+    if !is_sized(request) {
+        return read_in(
+            Known::NONE,
+            sizes,
+            sets,
+            curves,
+            functions,
             destination,
             request,
             reply,
         );
     }
-    read_by(
-        &all_sizes[0..0],
-        0,
-        &all_sets[0..0],
-        &all_curves[0..0],
-        &all_functions[0..0],
+    if !learned::usable_table(known, sizes, sets, curves, functions) {
+        return Told::Refused(Refusal::BoardUnusable);
+    }
+    read_in(
+        known,
+        sizes,
+        sets,
+        curves,
+        functions,
         destination,
         request,
         reply,
