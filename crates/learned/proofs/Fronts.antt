@@ -2,17 +2,23 @@
 use mathlib.Core.Path.{_≡_, refl, sym, ap, ap₂, _∙_}
 use mathlib.Core.Bool.{cond}
 use mathlib.Core.List.{List, _∷_, map}
-use Prim.Native.Nat.{ℕ, zero, suc, _+_, _*_, _/_, _≤_, _<_}
+use Prim.Native.Nat.{ℕ, zero, suc, _+_, _-_, _*_, _/_, _≤_, _<_}
 use native.Mathlib.Omega.{arith}
 use lib.Dec.{ltb}
 use lib.ListN.{length, take, getD}
 use lib.Seq.{length-take-le, getD-take}
 use borrow.Author.Tests.{lt-ltb}
+use borrow.Rule.Slice.PartMut.{midOf}
 use Rattle.bsmp.specs.Base.{upFrom}
 use Rattle.records.specs.Lending.{numbered, curveAt, functionAt, curvesOf, functionsOf, groupsBy, groupsOf}
 use Rattle.records.proofs.Walk.{length-numbered}
 use Rattle.records.proofs.Lending.{groups-lent}
-use Rattle.learned.specs.Table.{sizesIn, curvesIn, functionsIn}
+use Rattle.learned.specs.Table.{sizesIn, curvesIn, functionsIn, Few, tableOf, tableIn}
+use Rattle.learned.specs.declared.Known.{Known}
+
+-- a front of m places, as it is lent
+pub front : {A : Type 0} (m : ℕ) (l : List A) → midOf 0 (m - 0) l ≡ take m l
+front m l = let e : m - 0 ≡ m = omega arith in rw e
 
 -- things that agree at each number
 module _ {A : Type 0} (f g : ℕ → A) where
@@ -71,3 +77,11 @@ module _ (n : ℕ) where
           let x : 2 * f < 2 * n = omega arith in
           let y : 2 * f + 1 < 2 * n = omega arith in
           rw (lt-ltb _ _ a, lt-ltb _ _ b, getD-take (2 * n) ns (2 * f) 0 x, getD-take (2 * n) ns (2 * f + 1) 0 y)
+
+-- the whole table, lent by the fronts of its places
+pub table-front : (k : Known) (ss gs cs fs : List ℕ) → Few k → length ss ≡ 64 → length gs ≡ 5 → length cs ≡ 24 → length fs ≡ 32
+    → tableIn (midOf 0 (k .variables - 0) ss) (k .writable) (midOf 0 (k .groups - 0) gs) (midOf 0 (3 * k .curves - 0) cs) (midOf 0 (2 * k .functions - 0) fs) ≡ tableOf k ss gs cs fs
+table-front k ss gs cs fs w a b c d =
+    rw (front (k .variables) ss, front (k .groups) gs, front (3 * k .curves) cs, front (2 * k .functions) fs,
+        sizes-front (k .variables) ss (omega (arith, w .variables)), groups-lent (groupsBy (k .groups) gs) (omega (arith, w .groups)),
+        curves-front (k .curves) cs (omega (arith, w .curves)), functions-front (k .functions) fs (omega (arith, w .functions)))

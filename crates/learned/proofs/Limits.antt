@@ -5,7 +5,7 @@ use mathlib.Core.List.{List, [], _∷_, map}
 use Prim.Native.Nat.{ℕ, _-_, _*_, _%_, _≤_, _<_}
 use native.Mathlib.Omega.{arith}
 use lib.Dec.{leb}
-use lib.ListN.{length, take}
+use lib.ListN.{length, getD}
 use borrow.Author.Tests.{leb-true, lt-leb, not-true, not-false}
 use borrow.Rule.Slice.PartMut.{midOf}
 use Rattle.bsmp.specs.Base.{every}
@@ -13,18 +13,16 @@ use Rattle.bsmp.specs.Board.{usableSize, usableCurves, usableFunctions, usableG
 use Rattle.bsmp.proofs.Bools.{and-true, all-at, bool-eq}
 use Rattle.asking.specs.Learned.{sizeRules, usableSizes, usableLearned}
 use Rattle.records.specs.Lending.{curvesOf, functionsOf, groupsBy, groupsOf}
-use Rattle.records.proofs.Bounds.{usableFunction}
+use Rattle.records.proofs.Bounds.{inside, usableFunction}
+use Rattle.records.proofs.Lending.{made-count}
+use Rattle.records.proofs.Sound.{curves-most, functions-most, groups-most}
 use Rattle.rules.specs.declared.CurveTotal.{CurveTotal}
 use Rattle.rules.specs.Totals.{curvesTotal}
 use Rattle.rules.proofs.Checks.{curves-many, too-many}
 use Rattle.rules.proofs.Totals.{curves-usable}
-use Rattle.learned.specs.Table.{sizesIn, curvesIn, functionsIn, tableOf}
+use Rattle.learned.specs.Table.{sizesIn, curvesIn, functionsIn, Few, tableOf}
 use Rattle.learned.specs.declared.Known.{Known}
-use Rattle.learned.proofs.Fronts.{size-count, curve-count, function-count, sizes-front, curves-front, functions-front}
-
--- a front of m places, as it is lent
-front : {A : Type 0} (m : ℕ) (l : List A) → midOf 0 (m - 0) l ≡ take m l
-front m l = let e : m - 0 ≡ m = omega arith in rw e
+use Rattle.learned.proofs.Fronts.{front, size-count, curve-count, function-count, sizes-front, curves-front, functions-front}
 
 -- bytes of at most 127 are sizes themselves, and no size is above
 low-sizes : (l : List ℕ) → every (λ b. leb b 127) l ≡ true → map (λ b. b % 128) l ≡ l
@@ -97,3 +95,18 @@ module _ (k : Known) (ss gs cs fs : List ℕ) (v : Bool) (ve : v ≡ usableSizes
       unfolding usableLearned
       table-groups h g e =
           rw (← ve, not-false v vh, ← ce, not-false c ch, ← fe, not-false f h, ← size-count (k .variables) ss, ← e) (sym (and-on g))
+
+-- a usable table has no more than its places
+pub table-few : (k : Known) (ss gs cs fs : List ℕ) (u : Bool) → u ≡ usableLearned (tableOf k ss gs cs fs) → not u ≡ false → Few k
+unfolding usableLearned usableSizes
+table-few k ss gs cs fs u e h =
+    let ns : List ℕ = sizesIn (k .variables) ss in
+    let made : List ℕ = groupsOf (groupsBy (k .groups) gs) in
+    let parts : List Bool = usableSizes ns ∷ usableCurves (curvesIn (k .curves) cs) ∷ usableFunctions (functionsIn (k .functions) fs) ∷ usableGroups (length ns) made ∷ [] in
+    let at : (i : ℕ) → getD parts i true ≡ true = all-at parts (sym e ∙ not-false u h) in
+    record {
+      variables = omega (arith, size-count (k .variables) ss, inside 1 64 (length ns) (all-at (sizeRules ns) (at 0) 0));
+      groups = omega (arith, made-count (k .groups) gs, groups-most (length ns) made (at 3));
+      curves = omega (arith, curve-count (k .curves) cs, curves-most (curvesIn (k .curves) cs) (at 1));
+      functions = omega (arith, function-count (k .functions) fs, functions-most (functionsIn (k .functions) fs) (at 2));
+    }

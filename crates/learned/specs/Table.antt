@@ -1,6 +1,6 @@
 -- The learned table as the gateway keeps it, read as the definition's: for every count and every number in it. Assumes nothing.
 use mathlib.Core.List.{List}
-use Prim.Native.Nat.{ℕ}
+use Prim.Native.Nat.{ℕ, _≤_}
 use lib.ListN.{getD}
 use Rattle.bsmp.specs.declared.Curve.{Curve}
 use Rattle.bsmp.specs.declared.Function.{Function}
@@ -17,6 +17,13 @@ curvesIn n ns = numbered (curveAt ns) n
 
 unfoldable pub functionsIn : (count : ℕ) → List ℕ → List Function
 functionsIn n ns = numbered (functionAt ns) n
+
+-- no more than there are places for
+pub record Few (k : Known) : Type 0 where
+  pub variables : k .variables ≤ 64
+  pub groups : k .groups ≤ 5
+  pub curves : k .curves ≤ 8
+  pub functions : k .functions ≤ 16
 
 abbrev pub tableOf : Known → (sizes sets curves functions : List ℕ) → Learned
 tableOf k ss gs cs fs = record {

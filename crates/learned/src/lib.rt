@@ -34,6 +34,17 @@ pub struct LearnedTable {
     pub calls: [u8; 32],
 }
 
+impl Known {
+    // nothing is learned yet
+    pub const NONE: Known = Known {
+        variables: 0,
+        writable: 0,
+        groups: 0,
+        curves: 0,
+        functions: 0,
+    };
+}
+
 // Whether there are 1 to 64 sizes of 1 to 127, together at most 4,096. A size is the low seven bits of a byte, as in list 03; no byte is
 // over `most`.
 pub fn usable_sizes(list: &[u8], most: u8) -> bool

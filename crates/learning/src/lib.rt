@@ -1,7 +1,6 @@
 // What is learned by a reply: the lists taken over, whole or not at all, and an accepted 30 and 32 followed.
 use asking::Request;
 use asking::Told;
-use bsmp::Curve;
 use bsmp::GroupNumber;
 use learned::Known;
 ghost use mathlib.Core.Path.{_≡_};
@@ -11,7 +10,7 @@ ghost use lib.Dec.{leb, ltb};
 ghost use lib.ListN.{length};
 ghost use Rattle.bsmp.specs.Base.{every, marksOf};
 ghost use Rattle.copies.specs.Put.{put};
-ghost use Rattle.asking.specs.Learned.{blocksOf, curvesFrom};
+ghost use Rattle.asking.specs.Learned.{curvesFrom};
 ghost use Rattle.records.specs.Lending.{groupsBy, groupsOf};
 ghost use Rattle.learned.specs.Table.{tableOf};
 ghost use Rattle.learning.specs.Taking.{isTold, curvesTaken, functionsTaken, Regrouped, Shown, knownGroups, Answers, taughtBy, heardLeft, heardOf};
@@ -71,16 +70,6 @@ fn marks_in(list: &[u8]) -> u64
     marks
 }
 
-// 65,536 blocks are sent as 0.
-fn blocks_of(n: u32) -> u32
-    ensures { λ r. ⌜ r ≡ blocksOf n ⌝ }
-{
-    if n == 0 {
-        return 65536;
-    }
-    n
-}
-
 // The curves of list 09, three numbers each.
 fn take_curves(list: &[u8], curves: &mut [u32])
     requires { ⌜ 3 * length (now list) ≤ 5 * length (now curves) ⌝ }
@@ -90,13 +79,7 @@ fn take_curves(list: &[u8], curves: &mut [u32])
     let mut at = 0;
     let mut i = 0;
     while i + 4 < n {
-        let size = parts::word(list[i + 1], list[i + 2]) as u32;
-        let blocks = parts::word(list[i + 3], list[i + 4]) as u32;
-        let c = Curve {
-            writable: list[i] as u32,
-            size,
-            blocks: blocks_of(blocks),
-        };
+        let c = replies::curve_in(list, i);
         curves[at] = c.writable;
         curves[at + 1] = c.size;
         curves[at + 2] = c.blocks;
@@ -273,3 +256,38 @@ fn learn(
     }
 }
 
+
+// A reply to a request that went to this destination, heard: what it says, and the table after it. `bytes` are those that went with the
+// request.
+pub fn hear(
+    known: Known,
+    sizes: &mut [u8; 64],
+    sets: &mut [u64; 5],
+    curves: &mut [u32; 24],
+    functions: &mut [u8; 32],
+    destination: u8,
+    request: Request,
+    bytes: &[u8],
+    reply: &[u8],
+) -> Heard
+    ensures { λ r. let x = tableOf known (now (sizes .entry)) (now (sets .entry)) (now (curves .entry)) (now (functions .entry)) in
+        let y = tableOf (r .known) (now (sizes .exit)) (now (sets .exit)) (now (curves .exit)) (now (functions .exit)) in
+        ⌜ heardLeft (r .told) y ≡ heardOf x destination request (now (bytes .entry)) (now (reply .entry)) ⌝ }
+{
+    let told = replies::read(known, sizes, sets, curves, functions, destination, request, reply);
+    if !is_told(told) {
+        return Heard { told, known };
+    }
+    let end = reply.len() - 1;
+    let known = learn(
+        known,
+        sizes,
+        sets,
+        curves,
+        functions,
+        request,
+        bytes,
+        &reply[4..end],
+    );
+    Heard { told, known }
+}

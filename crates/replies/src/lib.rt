@@ -13,17 +13,17 @@ ghost use mathlib.Core.Path.{_≡_};
 ghost use mathlib.Core.Bool.{not, cond, _&&_};
 ghost use mathlib.Core.List.{[], _∷_};
 ghost use Prim.Native.Nat.{_+_, _*_, _≤_, _<_};
-ghost use lib.Dec.{ltb, eqb};
+ghost use lib.Dec.{leb, ltb, eqb};
 ghost use lib.ListN.{length};
-ghost use Rattle.bsmp.specs.Base.{upFrom, every, ascending, within, byteAt};
+ghost use Rattle.bsmp.specs.Base.{upFrom, every, ascending, within, byteAt, wordAt};
 ghost use Rattle.bsmp.specs.Board.{group, members, usableCurves};
 ghost use Rattle.bsmp.specs.Message.{noVariable, noGroup};
 ghost use Rattle.asking.specs.Learned.{slotOf, fitsCount, blocksOf, curvesFrom};
 ghost use Rattle.asking.specs.declared.Told.the-variants as T;
 ghost use Rattle.bsmp.specs.declared.Refusal.the-variants.{ReplyUnfit};
-ghost use Rattle.asking.specs.Reply.{done, version, variableList, groupList, memberList, curveList, functionList, values, block, digest, output, wanted, errorOf, toldOf, hearing};
+ghost use Rattle.asking.specs.Reply.{done, version, variableList, groupList, memberList, curveList, functionList, values, block, digest, output, wanted, errorReply, errorOf, toldOf, hearing};
 ghost use Rattle.asking.specs.Learning.{blank};
-ghost use Rattle.learned.specs.Table.{tableOf, tableIn};
+ghost use Rattle.learned.specs.Table.{Few, tableOf, tableIn};
 ghost use Rattle.replies.specs.Reading.{sizedRequest, answered, openedOf, messageHeard, heardBy, curveIn};
 
 // What a reply yields: a message, whose SIZE is right and which stands from place 1 up to the last byte, or its refusal.
@@ -93,6 +93,19 @@ pub fn open(destination: u8, reply: &[u8]) -> Opened
         return Opened::Refused(Refusal::ReplyUnfit);
     }
     Opened::Message
+}
+
+// Whether a reply is an error: E1 to E8 with no payload.
+fn is_error(code: u8, payload: &[u8]) -> bool
+    ensures { λ r. ⌜ r ≡ errorReply code (now (payload .entry)) ⌝ }
+{
+    if code < 0xE1 {
+        return false;
+    }
+    if 0xE8 < code {
+        return false;
+    }
+    payload.len() == 0
 }
 
 // The error of a code from E1 to E8.
@@ -258,17 +271,23 @@ fn blocks_of(n: u32) -> u32
     n
 }
 
+// A two-byte field of a payload.
+fn word_at(payload: &[u8], at: usize) -> u32
+    requires { ⌜ at + 1 < length (now payload) ⌝ }
+    ensures { λ r. ⌜ r ≡ wordAt (now (payload .entry)) at ⌝ }
+{
+    parts::word(payload[at], payload[at + 1]) as u32
+}
+
 // A curve's record of five bytes, from a place on.
 pub fn curve_in(payload: &[u8], at: usize) -> Curve
     requires { ⌜ at + 5 ≤ length (now payload) ⌝ }
     ensures { λ r. ⌜ r ≡ curveIn (now (payload .entry)) at ⌝ }
 {
-    let size = parts::word(payload[at + 1], payload[at + 2]) as u32;
-    let blocks = parts::word(payload[at + 3], payload[at + 4]) as u32;
     Curve {
         writable: payload[at] as u32,
-        size,
-        blocks: blocks_of(blocks),
+        size: word_at(payload, at + 1),
+        blocks: blocks_of(word_at(payload, at + 3)),
     }
 }
 
@@ -309,6 +328,12 @@ fn curves(code: u8, payload: &[u8]) -> Told
     Told::Refused(Refusal::ReplyUnfit)
 }
 
+fn fit_functions(count: usize) -> bool
+    ensures { λ r. ⌜ r ≡ leb count 16 ⌝ }
+{
+    count <= 16
+}
+
 // 0D: at most 16 functions; four bits hold no more than 15.
 fn functions(code: u8, payload: &[u8]) -> Told
     ensures { λ r. ⌜ r ≡ toldOf (answered blank functionList code (now (payload .entry))) ⌝ }
@@ -316,10 +341,10 @@ fn functions(code: u8, payload: &[u8]) -> Told
     if code != 0x0D {
         return Told::Refused(Refusal::ReplyUnfit);
     }
-    if 16 < payload.len() {
-        return Told::Refused(Refusal::ReplyUnfit);
+    if fit_functions(payload.len()) {
+        return Told::Functions(payload.len());
     }
-    Told::Functions(payload.len())
+    Told::Refused(Refusal::ReplyUnfit)
 }
 
 // 11 or 13: so many bytes.
@@ -386,7 +411,7 @@ fn block_told(curves: &[u32], c: CurveNumber, k: usize, code: u8, payload: &[u8]
     if payload[0] as usize != number {
         return Told::Refused(Refusal::ReplyUnfit);
     }
-    if parts::word(payload[1], payload[2]) != k {
+    if parts::word(payload[1], payload[2]) != k % 65536 {
         return Told::Refused(Refusal::ReplyUnfit);
     }
     let size = records::curve_at(curves, c).size as usize;
@@ -491,12 +516,8 @@ fn told(
     ensures { λ r. let x = tableIn (now (sizes .entry)) writable (now (made .entry)) (now (drawn .entry)) (now (callable .entry)) in
         ⌜ r ≡ toldOf (messageHeard x (wanted x request) code (now (payload .entry))) ⌝ }
 {
-    if payload.len() == 0 {
-        if 0xE1 <= code {
-            if code <= 0xE8 {
-                return Told::Error(error_of(code));
-            }
-        }
+    if is_error(code, payload) {
+        return Told::Error(error_of(code));
     }
     answer(
         sizes,
@@ -543,6 +564,41 @@ fn read_by(
     }
 }
 
+// The same with a table that has no more of each than there are places.
+fn read_in(
+    known: Known,
+    sizes: &[u8; 64],
+    sets: &[u64; 5],
+    curves: &[u32; 24],
+    functions: &[u8; 32],
+    destination: u8,
+    request: Request,
+    reply: &[u8],
+) -> Told
+    requires { ⌜ Few known ⌝ }
+    ensures { λ r. let x = tableOf known (now (sizes .entry)) (now (sets .entry)) (now (curves .entry)) (now (functions .entry)) in
+        ⌜ r ≡ toldOf (heardBy x (wanted x request) destination (now (reply .entry))) ⌝ }
+{
+    let all_sizes = &sizes[..];
+    let all_sets = &sets[..];
+    let all_curves = &curves[..];
+    let all_functions = &functions[..];
+    let n = known.variables as usize;
+    let g = known.groups as usize;
+    let c = 3 * known.curves as usize;
+    let f = 2 * known.functions as usize;
+    read_by(
+        &all_sizes[0..n],
+        known.writable,
+        &all_sets[0..g],
+        &all_curves[0..c],
+        &all_functions[0..f],
+        destination,
+        request,
+        reply,
+    )
+}
+
 // A reply to a request that went to this destination. Where the table doesn't count, none is looked at.
 pub fn read(
     known: Known,
@@ -557,35 +613,27 @@ pub fn read(
     ensures { λ r. let x = tableOf known (now (sizes .entry)) (now (sets .entry)) (now (curves .entry)) (now (functions .entry)) in
         ⌜ r ≡ toldOf (hearing x destination request (now (reply .entry))) ⌝ }
 {
-    let all_sizes = &sizes[..];
-    let all_sets = &sets[..];
-    let all_curves = &curves[..];
-    let all_functions = &functions[..];
-    if is_sized(request) {
-        if !learned::usable_table(known, sizes, sets, curves, functions) {
-            return Told::Refused(Refusal::BoardUnusable);
-        }
-        let n = known.variables as usize;
-        let g = known.groups as usize;
-        let c = 3 * known.curves as usize;
-        let f = 2 * known.functions as usize;
-        return read_by(
-            &all_sizes[0..n],
-            known.writable,
-            &all_sets[0..g],
-            &all_curves[0..c],
-            &all_functions[0..f],
+    if !is_sized(request) {
+        return read_in(
+            Known::NONE,
+            sizes,
+            sets,
+            curves,
+            functions,
             destination,
             request,
             reply,
         );
     }
-    read_by(
-        &all_sizes[0..0],
-        0,
-        &all_sets[0..0],
-        &all_curves[0..0],
-        &all_functions[0..0],
+    if !learned::usable_table(known, sizes, sets, curves, functions) {
+        return Told::Refused(Refusal::BoardUnusable);
+    }
+    read_in(
+        known,
+        sizes,
+        sets,
+        curves,
+        functions,
         destination,
         request,
         reply,

@@ -1,0 +1,73 @@
+-- `answer` meets its contract: each request's answer says the same with the columns that it looks at. Assumes nothing.
+use borrow.Author.Needs.{needs}
+use Rattle.bsmp.specs.Board.{members}
+use Rattle.asking.specs.Reply.{wanted, answers, tells}
+use Rattle.replies.proofs.Reading.{answer-of}
+use Rattle.replies.proofs.answer.Statement.{statement}
+use Rattle.replies.proofs.answer.Tie as tie
+
+pub answer-spec : {M : Type 1} → statement M
+unfolding wanted answers tells members
+answer-spec =
+    tie.close
+    (tie.spec
+    (λ c. search needs)
+    (λ c κs. search needs)
+    (λ c. search needs)
+    (λ c κs. search needs)
+    (λ c. search needs)
+    (λ c κs. search needs)
+    (λ c. search needs)
+    (λ c κs. search needs)
+    (λ c. search needs)
+    (λ c κs. search needs)
+    (λ c. search needs)
+    (λ c κs. search needs)
+    (λ c. search needs)
+    (λ c κs. search needs)
+    (λ c. search needs)
+    (λ c κs. search needs)
+    (λ c. search needs)
+    (λ c κs. search needs)
+    (λ c. search needs)
+    (λ c κs. search needs)
+    (λ c. search needs)
+    (λ c κs. search needs)
+    (λ c. search needs)
+    (λ c κs. search needs)
+    (λ c. search needs)
+    (λ c κs. search needs)
+    (λ c. search needs)
+    (λ c κs. search needs)
+    (λ c. search needs)
+    (λ c κs. search needs)
+    (λ c. search needs)
+    (λ c κs. search needs)
+    (λ c. search needs)
+    (λ c κs. search needs)
+    (λ c. search needs)
+    (λ c κs. search needs)
+    (λ c. search needs)
+    (λ c κs. search needs)
+    (λ c. search needs)
+    (λ c κs. search needs)
+    (λ c. search (answer-of, needs))
+    (λ c. search (answer-of, needs))
+    (λ c. search (answer-of, needs))
+    (λ c. search (answer-of, needs))
+    (λ c. search (answer-of, needs))
+    (λ c. search (answer-of, needs))
+    (λ c. search (answer-of, needs))
+    (λ c. search (answer-of, needs))
+    (λ c. search (answer-of, needs))
+    (λ c. search (answer-of, needs))
+    (λ c. search (answer-of, needs))
+    (λ c. search (answer-of, needs))
+    (λ c. search (answer-of, needs))
+    (λ c. search (answer-of, needs))
+    (λ c. search (answer-of, needs))
+    (λ c. search (answer-of, needs))
+    (λ c. search (answer-of, needs))
+    (λ c. search (answer-of, needs))
+    (λ c. search (answer-of, needs))
+    (λ c. search (answer-of, needs)))
