@@ -46,7 +46,7 @@ unfolding regrouped
 regrouped-at x k is n a b c = rw (le-leb (length (x .layout .sizes)) 64 n, le-leb k (length (x .groups)) a, lt-ltb k 5 b, c)
 
 -- behind the others
-regrouped-last : (x : Learned) (is : List VariableNumber) → length (x .layout .sizes) ≤ 64 → length (x .groups) < 5 → canGroup (x .layout) is ≡ true
+pub regrouped-last : (x : Learned) (is : List VariableNumber) → length (x .layout .sizes) ≤ 64 → length (x .groups) < 5 → canGroup (x .layout) is ≡ true
     → regrouped x (length (x .groups)) is ≡ x .groups ++ setOf (x .layout) is ∷ []
 regrouped-last x is n b c =
     regrouped-at x (length (x .groups)) is n (omega arith) b c

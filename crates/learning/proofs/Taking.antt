@@ -16,7 +16,10 @@ use lib.Seq.{drop-cons}
 use Rattle.bsmp.specs.Base.{every, join, bit, marksOf}
 use Rattle.bsmp.proofs.Marks.{marks-below}
 use Rattle.copies.specs.Put.{put}
-use Rattle.asking.specs.Learned.{blocksOf, curvesFrom}
+use Rattle.bsmp.specs.declared.Curve.{Curve}
+use Rattle.asking.specs.Learned.{curvesFrom}
+use Rattle.replies.specs.Reading.{curveIn}
+use Rattle.replies.proofs.Fives.{five-next}
 use Rattle.learning.specs.Taking.{curvesTaken, functionsTaken}
 use Rattle.copies.proofs.Put.{put-set, put-nil, put-turn, put-done, drop-one}
 
@@ -92,33 +95,20 @@ pub functions-end : (d l x : List ℕ) (i : ℕ) → length l ≤ i → put d (2
 functions-end d l x i h e = sym (put-nil d (2 * i)) ∙ ap (λ r. put d (2 * i) (functionsTaken r)) (sym (drop-of-length-le l h)) ∙ e
 
 -- curves: three numbers for five bytes ---------------------------------------------------------------------------------------------------
-pub curves-next : (d l : List ℕ) (at i : ℕ) → at + 2 < length d → i + 4 < length l
-    → put (set (set (set d at (getD l i 0)) (at + 1) (getD l (i + 1) 0 * 256 + getD l (i + 2) 0)) (at + 2) (blocksOf (getD l (i + 3) 0 * 256 + getD l (i + 4) 0))) (at + 3) (curvesTaken (curvesFrom (drop (i + 5) l)))
+pub curves-next : (d l : List ℕ) (at i : ℕ) (c : Curve) → at + 2 < length d → i + 4 < length l → c ≡ curveIn l i
+    → put (set (set (set d at (c .writable)) (at + 1) (c .size)) (at + 2) (c .blocks)) (at + 3) (curvesTaken (curvesFrom (drop (i + 5) l)))
     ≡ put d at (curvesTaken (curvesFrom (drop i l)))
-curves-next d l at i h k =
-    let x : ℕ = getD l i 0 in
-    let y : ℕ = getD l (i + 1) 0 * 256 + getD l (i + 2) 0 in
-    let z : ℕ = blocksOf (getD l (i + 3) 0 * 256 + getD l (i + 4) 0) in
+curves-next d l at i c h k e =
     let v : List ℕ = curvesTaken (curvesFrom (drop (i + 5) l)) in
     let two : at + 2 ≡ at + 1 + 1 = omega arith in
     let three : at + 3 ≡ at + 2 + 1 = omega arith in
-    ap (λ j. put (set (set (set d at x) (at + 1) y) (at + 2) z) j v) three
-    ∙ put-set (set (set d at x) (at + 1) y) (at + 2) z v (simp length-set (omega arith))
-    ∙ ap (λ j. put (set (set d at x) (at + 1) y) j (z ∷ v)) two
-    ∙ put-set (set d at x) (at + 1) y (z ∷ v) (simp length-set (omega arith))
-    ∙ put-set d at x (y ∷ z ∷ v) (omega arith)
-    ∙ ap (λ r. put d at (curvesTaken (curvesFrom r))) (sym (five l i k))
-  where
-    step : (l : List ℕ) (i j k : ℕ) → i ≡ k → j ≡ k + 1 → k < length l → drop i l ≡ getD l k 0 ∷ drop j l
-    step l i j k e f h = rw (e, f) (drop-one l k h)
-
-    five : (l : List ℕ) (i : ℕ) → i + 4 < length l → drop i l ≡ getD l i 0 ∷ getD l (i + 1) 0 ∷ getD l (i + 2) 0 ∷ getD l (i + 3) 0 ∷ getD l (i + 4) 0 ∷ drop (i + 5) l
-    five l i k =
-        step l i (i + 1) i refl refl (omega arith)
-        ∙ ap (getD l i 0 ∷_) (step l (i + 1) (i + 2) (i + 1) refl (omega arith) (omega arith)
-        ∙ ap (getD l (i + 1) 0 ∷_) (step l (i + 2) (i + 3) (i + 2) refl (omega arith) (omega arith)
-        ∙ ap (getD l (i + 2) 0 ∷_) (step l (i + 3) (i + 4) (i + 3) refl (omega arith) (omega arith)
-        ∙ ap (getD l (i + 3) 0 ∷_) (step l (i + 4) (i + 5) (i + 4) refl (omega arith) (omega arith)))))
+    ap (λ j. put (set (set (set d at (c .writable)) (at + 1) (c .size)) (at + 2) (c .blocks)) j v) three
+    ∙ put-set (set (set d at (c .writable)) (at + 1) (c .size)) (at + 2) (c .blocks) v (simp length-set (omega arith))
+    ∙ ap (λ j. put (set (set d at (c .writable)) (at + 1) (c .size)) j (c .blocks ∷ v)) two
+    ∙ put-set (set d at (c .writable)) (at + 1) (c .size) (c .blocks ∷ v) (simp length-set (omega arith))
+    ∙ put-set d at (c .writable) (c .size ∷ c .blocks ∷ v) (omega arith)
+    ∙ ap (λ x. put d at (curvesTaken (x ∷ curvesFrom (drop (i + 5) l)))) e
+    ∙ ap (λ cs. put d at (curvesTaken cs)) (sym (five-next l i k))
 
 pub curves-end : (d l x : List ℕ) (at i : ℕ) → length l ≤ i + 4 → put d at (curvesTaken (curvesFrom (drop i l))) ≡ x → d ≡ x
 curves-end d l x at i h e = sym (put-nil d at) ∙ ap (λ cs. put d at (curvesTaken cs)) (sym (no-curve (drop i l) (simp length-drop (omega arith)))) ∙ e
