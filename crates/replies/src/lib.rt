@@ -494,9 +494,7 @@ fn answer(
         Request::WriteRead { written: _, read } => variable_told(sizes, read, code, payload),
         Request::MakeGroup => done(code, payload),
         Request::RemoveGroups => done(code, payload),
-        Request::ReadBlock { curve, block } => {
-            block_told(drawn, curve, block, code, payload)
-        }
+        Request::ReadBlock { curve, block } => block_told(drawn, curve, block, code, payload),
         Request::WriteBlock { curve: _, block: _ } => done(code, payload),
         Request::RenewSum(_) => done(code, payload),
         Request::RunFunction(f) => output_told(callable, f, code, payload),
