@@ -328,6 +328,7 @@ fn curves(code: u8, payload: &[u8]) -> Told
     Told::Refused(Refusal::ReplyUnfit)
 }
 
+// At most 16. A function of its own: where none is called, it isn't known that a payload holds bytes.
 fn fit_functions(count: usize) -> bool
     ensures { λ r. ⌜ r ≡ leb count 16 ⌝ }
 {
@@ -393,7 +394,7 @@ fn group_told(
     bytes_told(0x13, members::set_bytes(sizes, set), code, payload)
 }
 
-// 41: the same curve and block, and 1 to the block size of bytes.
+// 41: the same curve and block, of whose number two bytes are sent, and 1 to the block size of bytes.
 fn block_told(curves: &[u32], c: CurveNumber, k: usize, code: u8, payload: &[u8]) -> Told
     ensures { λ r. ⌜ r ≡ toldOf (answered (tableIn [] 0 [] (now (curves .entry)) []) (block c k) code (now (payload .entry))) ⌝ }
 {
@@ -564,7 +565,7 @@ fn read_by(
     }
 }
 
-// The same with a table that has no more of each than there are places.
+// A reply, with a table that has no more of each than there are places.
 fn read_in(
     known: Known,
     sizes: &[u8; 64],
