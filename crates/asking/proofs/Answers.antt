@@ -24,6 +24,7 @@ use Rattle.bsmp.proofs.Lengths.{in-range as lengths-in-range, content-length, p
 use Rattle.bsmp.proofs.Room.{told-bytes, five-each, limits}
 use Rattle.asking.specs.Learned.{Learned, learnedOf, usableSizes, usableLearned, slot, slotOf, variableSlots, groupSlots, fitsCount, curvesFrom, functionsFrom}
 use Rattle.asking.specs.Reply.{Wanted, memberList, values, block, digest, output, isVariables, isGroups, isMembers, isCurves, isFunctions, isValues, holds, errorReply, answers, tells}
+use Rattle.asking.proofs.Written.{word-read}
 use Rattle.asking.proofs.Lists.{and-both, in-range, between, map-numbered, every-numbered, numbers-again}
 use Rattle.asking.proofs.Members.{members-few, members-limited, count-fits}
 use Rattle.asking.proofs.Records.{slot-read, curves-read, functions-read, values-read}
@@ -145,15 +146,24 @@ module _ (t : Table) (s : State) (h : usable t s ≡ true) where
   unfolding functionList usableFunctions
   functions-back = functions-read (t .functions) (and-true (leb (length (t .functions)) 16) _ (usable-parts t s h .functions) .1)
 
-  -- 41: 1 to the block size of bytes
+  -- 41: its number has two bytes
+  good-curve : (c : CurveNumber) → c .0 < length (t .curves) → usableCurve (curveOf L c) ≡ true
+  unfolding usableCurves
+  good-curve c a = every-at usableCurve (t .curves) (c .0) blankCurve (all-at (curveRules (t .curves)) (usable-parts t s h .curves) 1) a
+
+  block-few : (c : CurveNumber) (k : ℕ) → c .0 < length (t .curves) → k < curveOf L c .blocks → k < 65536
+  block-few c k a b =
+      let w = and-true (isType (curveOf L c .writable) && within 1 4096 (curveOf L c .size)) (within 1 65536 (curveOf L c .blocks)) (good-curve c a) in
+      omega (arith, b, between 1 65536 (curveOf L c .blocks) (w .1))
+
+  -- and 1 to the block size of bytes follow
   block-bytes : (c : CurveNumber) (k : ℕ) → c .0 < length (t .curves) → k < curveOf L c .blocks
       → (1 ≤ length (contentOf s (blockPlace L c k))) × (length (contentOf s (blockPlace L c k)) ≤ curveOf L c .size)
   unfolding usableCurves
   block-bytes c k a b =
       let at : ℕ = blockPlace L c k in
       let z : getD (blockSizes (t .curves)) at 0 ≡ curveOf L c .size = block-size (t .curves) (c .0) k a b in
-      let u = every-at usableCurve (t .curves) (c .0) blankCurve (all-at (curveRules (t .curves)) (usable-parts t s h .curves) 1) a in
-      let one = between 1 4096 (curveOf L c .size) (and-true (isType (curveOf L c .writable)) _ (and-true _ (within 1 65536 (curveOf L c .blocks)) u .0) .1) in
+      let one = between 1 4096 (curveOf L c .size) (and-true (isType (curveOf L c .writable)) _ (and-true (isType (curveOf L c .writable) && within 1 4096 (curveOf L c .size)) (within 1 65536 (curveOf L c .blocks)) (good-curve c a) .0) .1) in
       let e : length (contentOf s at) ≡ getD (s .lengths) at 0 = content-length t s h at in
       (omega (arith, lengths-in-range t s h .least at (place-known (blockSizes (t .curves)) at (omega arith))), omega (arith, lengths-in-range t s h .most at))
 
@@ -181,7 +191,7 @@ module _ (t : Table) (s : State) (h : usable t s ≡ true) (s′ : State) (u : u
       let n = block-bytes t s′ u c k (a .0) (a .1) in (
         refl,
         rw (lt-ltb (c .0) (length (t .curves)) (a .0))
-            (and-both _ _ (same-refl (c .0 ∷ word k)) (in-range 1 (curveOf (layout t) c .size) (suc (suc (suc (length (contentOf s′ (blockPlace (layout t) c k))))) - 3) (omega arith) (omega arith))),
+            (and-both _ _ (and-both (eqb (c .0) (c .0)) _ (eq-eqb (c .0) (c .0) refl) (eq-eqb _ k (word-read k (block-few t s′ u c k (a .0) (a .1))))) (in-range 1 (curveOf (layout t) c .size) (suc (suc (suc (length (contentOf s′ (blockPlace (layout t) c k))))) - 3) (omega arith) (omega arith))),
         λ r. refl,
       )
   right (digest c) a = (refl, rw (lt-ltb (c .0) (length (t .curves)) a) (eq-eqb (length (sumOf s′ c)) 16 (sum-length t s′ (usable-parts t s′ u) c a)), λ r. refl)

@@ -4,8 +4,8 @@ use mathlib.Core.Bool.{Bool, true, false, cond, not, _&&_, _||_}
 use mathlib.Core.List.{List, [], _∷_, map}
 use Prim.Native.Nat.{ℕ, _-_, _*_, _%_}
 use lib.Dec.{leb, ltb, eqb}
-use lib.ListN.{length, take, drop}
-use Rattle.bsmp.specs.Base.{sum, upFrom, every, cut, same, ascending, within, byteAt, wordAt, word, Test, test, first}
+use lib.ListN.{length, drop}
+use Rattle.bsmp.specs.Base.{sum, upFrom, every, cut, same, ascending, within, byteAt, wordAt, Test, test, first}
 use Rattle.bsmp.specs.Codes.{coded}
 use Rattle.bsmp.specs.Board.{variable, group, Layout, State, valueOf, contentOf, sumOf, sizeOf, members, curveOf, blockPlace, functionOf, usableCurves, usableFunctions}
 use Rattle.bsmp.specs.Message.{noVariable, noGroup, noCurve, noFunction}
@@ -120,6 +120,10 @@ errors = (0xE1, Malformed) ∷ (0xE2, Unsupported) ∷ (0xE3, BadId) ∷ (0xE4, 
 unfoldable pub errorOf : ℕ → WireError
 errorOf = coded errors Busy
 
+-- "same curve and block"
+abbrev pub sameBlock : CurveNumber → ℕ → List ℕ → Bool
+sameBlock cv k p = eqb (byteAt p 0) (cv .0) && eqb (wordAt p 1) k
+
 -- "or 01's answer to that request: of the size that the learned table gives"; "lists: whole records within 01's limits, 07 ascending"
 unfoldable pub answers : Learned → Wanted → ℕ → List ℕ → Bool
 answers x done c p = eqb c 0xE0 && eqb (length p) 0
@@ -130,8 +134,8 @@ answers x (memberList g) c p = eqb c 0x07 && fitsCount g (length p) && ascending
 answers x curveList c p = eqb c 0x09 && eqb (5 * length (curvesFrom p)) (length p) && usableCurves (curvesFrom p)
 answers x functionList c p = eqb c 0x0D && usableFunctions (functionsFrom p)
 answers x (values b k is) c p = b && eqb c k && eqb (length p) (sum (map (sizeOf (x .layout)) is))
--- "same curve and block, 1 to the block size of bytes"
-answers x (block cv k) c p = not (noCurve (x .layout) cv) && eqb c 0x41 && same (take 3 p) (cv .0 ∷ word k) && within 1 (curveOf (x .layout) cv .size) (length p - 3)
+-- "1 to the block size of bytes"
+answers x (block cv k) c p = not (noCurve (x .layout) cv) && eqb c 0x41 && sameBlock cv k p && within 1 (curveOf (x .layout) cv .size) (length p - 3)
 answers x (digest cv) c p = not (noCurve (x .layout) cv) && eqb c 0x0B && eqb (length p) 16
 answers x (output f) c p =
     not (noFunction (x .layout) f) && ((eqb c 0x51 && eqb (length p) (functionOf (x .layout) f .output)) || (eqb c 0x53 && eqb (length p) 1))

@@ -1,10 +1,8 @@
 -- So many records are the front of their places, as long as there are that many. Assumes nothing.
 use mathlib.Core.Path.{_≡_, refl, sym, ap, ap₂, _∙_}
-use mathlib.Core.Bool.{cond}
 use mathlib.Core.List.{List, _∷_, map}
 use Prim.Native.Nat.{ℕ, zero, suc, _+_, _-_, _*_, _/_, _≤_, _<_}
 use native.Mathlib.Omega.{arith}
-use lib.Dec.{ltb}
 use lib.ListN.{length, take, getD}
 use lib.Seq.{length-take-le, getD-take}
 use borrow.Author.Tests.{lt-ltb}
@@ -82,6 +80,13 @@ module _ (n : ℕ) where
 pub table-front : (k : Known) (ss gs cs fs : List ℕ) → Few k → length ss ≡ 64 → length gs ≡ 5 → length cs ≡ 24 → length fs ≡ 32
     → tableIn (midOf 0 (k .variables - 0) ss) (k .writable) (midOf 0 (k .groups - 0) gs) (midOf 0 (3 * k .curves - 0) cs) (midOf 0 (2 * k .functions - 0) fs) ≡ tableOf k ss gs cs fs
 table-front k ss gs cs fs w a b c d =
-    rw (front (k .variables) ss, front (k .groups) gs, front (3 * k .curves) cs, front (2 * k .functions) fs,
-        sizes-front (k .variables) ss (omega (arith, w .variables)), groups-lent (groupsBy (k .groups) gs) (omega (arith, w .groups)),
-        curves-front (k .curves) cs (omega (arith, w .curves)), functions-front (k .functions) fs (omega (arith, w .functions)))
+    rw (
+      front (k .variables) ss,
+      front (k .groups) gs,
+      front (3 * k .curves) cs,
+      front (2 * k .functions) fs,
+      sizes-front (k .variables) ss (omega (arith, w .variables)),
+      groups-lent (groupsBy (k .groups) gs) (omega (arith, w .groups)),
+      curves-front (k .curves) cs (omega (arith, w .curves)),
+      functions-front (k .functions) fs (omega (arith, w .functions)),
+    )

@@ -8,8 +8,8 @@ use lib.Dec.{leb}
 use lib.ListN.{length, drop, getD, length-map}
 use mir.Syntax.{w32}
 use mir.Val.{Fits}
-use borrow.Author.Tests.{le-leb, lt-leb, leb-true}
-use Rattle.bsmp.specs.Base.{sum, every, all}
+use borrow.Author.Tests.{le-leb, lt-leb}
+use Rattle.bsmp.specs.Base.{sum, every}
 use Rattle.bsmp.specs.Board.{usableSize}
 use Rattle.asking.specs.Learned.{sizeRules, usableSizes}
 use Rattle.records.proofs.Walk.{Walked, walked-start, walked-next, walked-stop, walked-end, sum-next, sum-end}

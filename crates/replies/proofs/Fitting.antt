@@ -2,17 +2,17 @@
 use mathlib.Core.Path.{_≡_, refl, sym, ap, _∙_}
 use mathlib.Core.Bool.{Bool, true, false, cond, not, _&&_, _||_, and-false, and-true as and-on}
 use mathlib.Core.List.{List, [], _∷_, map}
-use Prim.Native.Nat.{ℕ, zero, suc, _+_, _-_, _*_, _/_, _%_, _≤_, _<_}
+use Prim.Native.Nat.{ℕ, suc, _+_, _-_, _*_, _/_, _%_, _≤_, _<_}
 use native.Mathlib.Omega.{arith}
 use lib.Dec.{leb, ltb, eqb}
-use lib.ListN.{length, take, drop, getD, length-map, length-drop, length-take}
-use lib.Seq.{getD-take}
+use lib.ListN.{length, take, drop, getD, length-map, length-drop}
 use borrow.Author.Tests.{lt-ltb, le-ltb, le-leb, lt-leb, eq-eqb, ne-eqb}
 use mir.Syntax.{w8}
 use mir.Val.{Fits}
-use Rattle.bsmp.specs.Base.{sum, every, same, within, byteAt, word}
+use Rattle.bsmp.specs.Base.{every, same, within, byteAt}
 use Rattle.bsmp.specs.Board.{usableFunctions}
 use Rattle.bsmp.specs.declared.Curve.{Curve}
+use Rattle.bsmp.specs.declared.CurveNumber.{CurveNumber}
 use Rattle.bsmp.specs.Packet.{gave, failed}
 use Rattle.bsmp.specs.declared.FunctionNumber.{FunctionNumber}
 use Rattle.bsmp.specs.declared.Function.{Function}
@@ -21,7 +21,7 @@ use Rattle.bsmp.proofs.Bools.{not-so}
 use Rattle.bsmp.proofs.Store.{same-refl, same-eq}
 use Rattle.rules.proofs.Checks.{both-on, left-off, right-off}
 use Rattle.asking.specs.Learned.{usableSizes, slotOf, blocksOf, functionsFrom}
-use Rattle.asking.specs.Reply.{Heard, isResult, errorReply, hears, Hearing, toldOf}
+use Rattle.asking.specs.Reply.{Heard, isResult, errorReply, sameBlock, hears, Hearing, toldOf}
 use Rattle.asking.specs.declared.Told.{Told}
 use Rattle.asking.specs.declared.Told.the-variants as T
 
@@ -85,26 +85,16 @@ three-same (u ∷ v ∷ w ∷ []) a b c n x y z = rw (x, y, z) (same-refl (a ∷
 three-same (u ∷ v ∷ w ∷ t ∷ l) a b c n x y z = absurd (omega (arith, n))
 
 -- a block's curve and number, from the front of its payload; m is the two-byte field
-module _ (p : List ℕ) (n k : ℕ) where
-  pub block-curve : (getD p 0 0 ≡ n → ⊥) → same (take 3 p) (n ∷ word k) ≡ false
-  block-curve h = three-first (take 3 p) n _ _ (λ e. h (sym (getD-take 3 p 0 0 (omega arith)) ∙ e))
+module _ (p : List ℕ) (c : CurveNumber) (k : ℕ) where
+  pub block-curve : (getD p 0 0 ≡ c .0 → ⊥) → sameBlock c k p ≡ false
+  block-curve h = rw (ne-eqb (getD p 0 0) (c .0) h)
 
   module _ (m : ℕ) (f : m ≡ getD p 1 0 * 256 + getD p 2 0) where
-    pub block-number : (m ≡ k % 65536 → ⊥) → same (take 3 p) (n ∷ word k) ≡ false
-    block-number h = not-so _ (λ u. h (number (same-eq (take 3 p) (n ∷ word k) u)))
-      where
-        number : take 3 p ≡ n ∷ word k → m ≡ k % 65536
-        number e =
-            let a : getD p 1 0 ≡ k / 256 % 256 = sym (getD-take 3 p 1 0 (omega arith)) ∙ ap (λ l. getD l 1 0) e in
-            let b : getD p 2 0 ≡ k % 256 = sym (getD-take 3 p 2 0 (omega arith)) ∙ ap (λ l. getD l 2 0) e in
-            omega arith
+    pub block-number : (m ≡ k → ⊥) → sameBlock c k p ≡ false
+    block-number h = right-off (eqb (getD p 0 0) (c .0)) _ (rw (← f) (ne-eqb m k h))
 
-    pub block-named : m < 65536 → ((i : ℕ) → Fits w8 (getD p i 0)) → 4 ≤ length p → getD p 0 0 ≡ n → m ≡ k % 65536 → same (take 3 p) (n ∷ word k) ≡ true
-    block-named s l c a h =
-        let o : getD p 1 0 ≡ k / 256 % 256 = omega (arith, l 2) in
-        let q : getD p 2 0 ≡ k % 256 = omega (arith, l 2) in
-        three-same (take 3 p) n _ _ (simp length-take (omega arith))
-        (getD-take 3 p 0 0 (omega arith) ∙ a) (getD-take 3 p 1 0 (omega arith) ∙ o) (getD-take 3 p 2 0 (omega arith) ∙ q)
+    pub block-named : getD p 0 0 ≡ c .0 → m ≡ k → sameBlock c k p ≡ true
+    block-named a h = both-on _ _ (eq-eqb (getD p 0 0) (c .0) a) (rw (← f) (eq-eqb m k h))
 
 -- 1 to the block size of bytes; v is the curve's record
 module _ (p : List ℕ) (x v : Curve) (e : v ≡ x) where

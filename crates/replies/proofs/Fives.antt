@@ -1,17 +1,17 @@
 -- Curve records as the list of curves has them, five bytes each, which the code walks. Assumes nothing.
 use mathlib.Core.Path.{_≡_, refl, sym, ap, _∙_}
 use mathlib.Core.Bool.{Bool, true, false, not, _&&_, and-true as and-on}
-use mathlib.Core.List.{List, [], _∷_, map}
-use Prim.Native.Nat.{ℕ, zero, suc, _+_, _-_, _*_, _/_, _≤_, _<_}
+use mathlib.Core.List.{List, [], _∷_}
+use Prim.Native.Nat.{ℕ, suc, _+_, _*_, _/_, _≤_, _<_}
 use native.Mathlib.Omega.{arith}
 use lib.Dec.{leb, eqb}
 use lib.ListN.{length, drop, getD, length-drop}
 use lib.Seq.{drop-cons}
 use mir.Syntax.{w32}
 use mir.Val.{Fits}
-use borrow.Author.Tests.{le-leb, lt-leb, eq-eqb, ne-eqb, eqb-true, not-true, not-false}
-use Rattle.bsmp.specs.Base.{sum, every, all, wordAt}
-use Rattle.bsmp.specs.Board.{usableCurve, curveRules, usableCurves}
+use borrow.Author.Tests.{le-leb, eq-eqb, ne-eqb, eqb-true, not-true, not-false}
+use Rattle.bsmp.specs.Base.{sum, every, wordAt}
+use Rattle.bsmp.specs.Board.{usableCurve, usableCurves}
 use Rattle.bsmp.specs.declared.Curve.{Curve}
 use Rattle.bsmp.proofs.Bools.{and-true}
 use Rattle.records.specs.Lending.{curveBytes}

@@ -1,20 +1,20 @@
 -- What `open` meets, one return at a time, and what an opened reply tells its caller. Assumes nothing.
-use mathlib.Core.Path.{_≡_, refl, sym, ap, _∙_}
-use mathlib.Core.Bool.{Bool, true, false, cond, not, _&&_, and-false}
-use mathlib.Core.List.{List, [], _∷_}
-use Prim.Native.Nat.{ℕ, zero, suc, _+_, _-_, _*_, _%_, _^_, _≤_, _<_}
+use mathlib.Core.Path.{_≡_, sym, ap, _∙_}
+use mathlib.Core.Bool.{Bool, true, false, cond, not, _&&_}
+use mathlib.Core.List.{List}
+use Prim.Native.Nat.{ℕ, _+_, _-_, _*_, _%_, _^_, _≤_, _<_}
 use native.Mathlib.Omega.{arith}
-use borrow.Author.Tests.{lt-ltb, le-ltb, le-leb, lt-leb, eq-eqb, ne-eqb, leb-true, eqb-true, not-false}
+use borrow.Author.Tests.{lt-ltb, le-ltb, le-leb, lt-leb, eq-eqb, ne-eqb, leb-true, not-false}
 use borrow.Rule.Slice.PartMut.{midOf}
-use lib.Dec.{leb, ltb, eqb}
+use lib.Dec.{eqb}
 use lib.ListN.{length, take, drop, getD, length-take, length-drop}
 use lib.Seq.{getD-take, getD-drop, drop-drop, take-add, drop-at}
-use Rattle.bsmp.specs.Base.{sum, within, byteAt, wordAt, Test, first}
+use Rattle.bsmp.specs.Base.{sum, byteAt, wordAt, first}
 use Rattle.bsmp.specs.Packet.{message}
 use Rattle.bsmp.specs.declared.Refusal.{Refusal}
 use Rattle.bsmp.specs.declared.Refusal.the-variants.{BadAddress, PacketLength, Checksum, ReplyUnfit}
 use Rattle.bsmp.proofs.Bools.{and-true}
-use Rattle.bsmp.proofs.Chain.{clear, clear-at, first-case, first-map}
+use Rattle.bsmp.proofs.Chain.{clear-at, first-case, first-map}
 use Rattle.asking.specs.Request.{isMulticast, isAddress}
 use Rattle.asking.specs.Reply.{isWhole}
 use Rattle.replies.specs.Reading.{openTests, openedOf}

@@ -4,11 +4,11 @@ use mathlib.Core.Bool.{Bool, true, false, cond, not, _&&_}
 use mathlib.Core.List.{List, [], _∷_, map}
 use Prim.Native.Nat.{ℕ, _+_, _≤_, _<_}
 use native.Mathlib.Omega.{arith}
-use lib.Dec.{ltb, eqb}
-use lib.ListN.{length, take, drop, getD, length-take, length-drop}
-use borrow.Author.Tests.{lt-ltb, le-ltb, eqb-true}
+use lib.Dec.{eqb}
+use lib.ListN.{length, drop, getD, length-take, length-drop}
+use borrow.Author.Tests.{eqb-true}
 use Rattle.bsmp.specs.Base.{sum, cut}
-use Rattle.bsmp.specs.Board.{Layout, sizeOf, members, groupCount}
+use Rattle.bsmp.specs.Board.{sizeOf, members}
 use Rattle.bsmp.specs.Message.{noVariable, noGroup}
 use Rattle.bsmp.specs.declared.VariableNumber.{VariableNumber}
 use Rattle.bsmp.specs.declared.GroupNumber.{GroupNumber}

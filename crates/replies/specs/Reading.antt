@@ -1,6 +1,6 @@
 -- How the code reads a reply: in steps, each as the definition has it. Assumes nothing.
 use mathlib.Core.Bool.{Bool, cond, not, _&&_, _||_}
-use mathlib.Core.List.{List, [], _∷_, _++_}
+use mathlib.Core.List.{List, [], _∷_}
 use Prim.Native.Nat.{ℕ, _+_, _%_}
 use lib.Dec.{ltb, eqb}
 use lib.ListN.{length, drop}
@@ -11,7 +11,7 @@ use Rattle.bsmp.specs.declared.Refusal.{Refusal}
 use Rattle.bsmp.specs.declared.Refusal.the-variants.{BadAddress, PacketLength, Checksum, ReplyUnfit}
 use Rattle.asking.specs.Request.{isMulticast, isAddress}
 use Rattle.asking.specs.Learned.{Learned, blocksOf}
-use Rattle.asking.specs.Reply.{Wanted, wanted, isSized, errorReply, errorOf, answers, tells, isWhole, fitsWanted, heardIn, isError, Hearing, hears}
+use Rattle.asking.specs.Reply.{Wanted, wanted, isSized, errorReply, errorOf, answers, tells, isWhole, isError, Hearing, hears}
 use Rattle.asking.specs.Learning.{blank}
 use Rattle.asking.specs.declared.Request.{Request}
 use Rattle.replies.specs.declared.Opened.{Opened}

@@ -328,6 +328,7 @@ fn curves(code: u8, payload: &[u8]) -> Told
     Told::Refused(Refusal::ReplyUnfit)
 }
 
+// At most 16. A function of its own: where none is called, it isn't known that a payload holds bytes.
 fn fit_functions(count: usize) -> bool
     ensures { λ r. ⌜ r ≡ leb count 16 ⌝ }
 {
@@ -393,7 +394,7 @@ fn group_told(
     bytes_told(0x13, members::set_bytes(sizes, set), code, payload)
 }
 
-// 41: the same curve and block, and 1 to the block size of bytes.
+// 41: the same curve and block, of whose number two bytes are sent, and 1 to the block size of bytes.
 fn block_told(curves: &[u32], c: CurveNumber, k: usize, code: u8, payload: &[u8]) -> Told
     ensures { λ r. ⌜ r ≡ toldOf (answered (tableIn [] 0 [] (now (curves .entry)) []) (block c k) code (now (payload .entry))) ⌝ }
 {
@@ -411,7 +412,7 @@ fn block_told(curves: &[u32], c: CurveNumber, k: usize, code: u8, payload: &[u8]
     if payload[0] as usize != number {
         return Told::Refused(Refusal::ReplyUnfit);
     }
-    if parts::word(payload[1], payload[2]) != k % 65536 {
+    if parts::word(payload[1], payload[2]) != k {
         return Told::Refused(Refusal::ReplyUnfit);
     }
     let size = records::curve_at(curves, c).size as usize;
@@ -494,7 +495,7 @@ fn answer(
         Request::WriteRead { written: _, read } => variable_told(sizes, read, code, payload),
         Request::MakeGroup => done(code, payload),
         Request::RemoveGroups => done(code, payload),
-        Request::ReadBlock { curve, block } => { block_told(drawn, curve, block, code, payload) }
+        Request::ReadBlock { curve, block } => block_told(drawn, curve, block, code, payload),
         Request::WriteBlock { curve: _, block: _ } => done(code, payload),
         Request::RenewSum(_) => done(code, payload),
         Request::RunFunction(f) => output_told(callable, f, code, payload),
@@ -564,7 +565,7 @@ fn read_by(
     }
 }
 
-// The same with a table that has no more of each than there are places.
+// A reply, with a table that has no more of each than there are places.
 fn read_in(
     known: Known,
     sizes: &[u8; 64],
