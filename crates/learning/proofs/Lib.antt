@@ -1,2 +1,3 @@
 pub mod Taking
 pub mod Grouping
+pub mod Taught

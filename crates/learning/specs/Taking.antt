@@ -1,16 +1,15 @@
 -- How the code learns: an answer by its request and payload, taken into the table's places. Assumes nothing.
 use mathlib.Core.Path.{_≡_}
-use mathlib.Core.Bool.{Bool, true, false, cond, _&&_}
-use mathlib.Core.List.{List, [], _∷_, _++_, map}
-use Prim.Native.Nat.{ℕ, suc, _-_, _/_, _%_, _≤_}
-use lib.Dec.{leb, ltb}
-use lib.ListN.{length, take, drop}
-use Rattle.bsmp.specs.Base.{every, join, marksOf}
-use Rattle.bsmp.specs.Board.{variable, Layout, setOf}
+use mathlib.Core.Bool.{Bool, true, false}
+use mathlib.Core.List.{List, [], _∷_, map}
+use Prim.Native.Nat.{ℕ, _*_, _/_, _%_, _≤_}
+use lib.ListN.{length}
+use Rattle.bsmp.specs.Base.{join}
+use Rattle.bsmp.specs.Board.{variable}
 use Rattle.bsmp.specs.declared.GroupNumber.{GroupNumber}
 use Rattle.bsmp.specs.declared.Curve.{Curve}
-use Rattle.asking.specs.Learned.{Learned, slotOf, curvesFrom, functionsFrom}
-use Rattle.asking.specs.Reply.{Hearing, hears, hearing, toldOf, tells, wanted, Heard}
+use Rattle.asking.specs.Learned.{Learned, curvesFrom}
+use Rattle.asking.specs.Reply.{hearing, toldOf, tells, wanted}
 use Rattle.asking.specs.Learning.{regrouped, shownGroups, taught, learning}
 use Rattle.asking.specs.declared.Request.{Request}
 use Rattle.asking.specs.declared.Request.the-variants.{Version, ListVariables, ListGroups, ShowGroup, ListCurves, ReadSum, ListFunctions, ReadVariable, ReadGroup, WriteVariable, WriteGroup}
@@ -60,7 +59,7 @@ taughtBy x r d p = taught x r d (tells x (wanted x r) 0 p)
 abbrev pub Answers : Request → List ℕ → Type 0
 Answers ListVariables p = length p ≤ 64
 Answers ListGroups p = 3 ≤ length p
-Answers ListCurves p = (length p ≤ 40) × (length p % 5 ≡ 0)
+Answers ListCurves p = (length p ≤ 40) × (5 * length (curvesFrom p) ≡ length p)
 Answers ListFunctions p = length p ≤ 16
 Answers Version p = Unit {0}
 Answers (ShowGroup g) p = Unit {0}
