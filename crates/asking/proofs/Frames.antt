@@ -32,6 +32,7 @@ payloadIn q = drop 3 (message q)
 
 pub record Taken (x : Learned) (to : ℕ) (r : Request) (q : List ℕ) (h : Heard) : Type 0 where
   pub single : isMulticast to ≡ false
+  pub whole : isWhole (message q) ≡ true
   pub fitting : fitsWanted x (wanted x r) (codeIn q) (payloadIn q) ≡ true
   pub says : h ≡ heardIn x (wanted x r) (codeIn q) (payloadIn q)
 
@@ -43,8 +44,9 @@ taken x to r q h =
     (λ c k.
     let f : fits x (wanted x r) to q ≡ true = not-false _ (clear-at (hearingTests x (wanted x r) to q) c 4) in
     let a = and-true _ (fitsWanted x (wanted x r) (codeIn q) (payloadIn q)) f in
-    let b = and-true (not (isMulticast to)) (eqb (byteAt q 0) 0) (and-true _ (isWhole (message q)) (a .0) .0) in
-    record { single = not-true _ (b .0); fitting = a .1; says = cc })
+    let w = and-true (not (isMulticast to) && eqb (byteAt q 0) 0) (isWhole (message q)) (a .0) in
+    let b = and-true (not (isMulticast to)) (eqb (byteAt q 0) 0) (w .0) in
+    record { single = not-true _ (b .0); whole = w .1; fitting = a .1; says = cc })
 
 -- no reply to a multicast is heard
 pub never-multicast : (x : Learned) (to : ℕ) (r : Request) (q : List ℕ) (h : Heard) → isMulticast to ≡ true → hearing x to r q ≡ hears h → ⊥

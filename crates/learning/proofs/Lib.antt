@@ -1,3 +1,4 @@
 pub mod Taking
 pub mod Grouping
 pub mod Taught
+pub mod Hearing

@@ -236,7 +236,13 @@ fn learn(
             }
         }
         Request::MakeGroup => {
-            let groups = put_group(known.variables, known.groups, &mut sets[..], known.groups, ids);
+            let groups = put_group(
+                known.variables,
+                known.groups,
+                &mut sets[..],
+                known.groups,
+                ids,
+            );
             with_groups(known, groups)
         }
         Request::RemoveGroups => with_groups(known, 0),
@@ -248,14 +254,16 @@ fn learn(
         Request::WriteGroup(_) => known,
         Request::MaskVariable(_, _) => known,
         Request::MaskGroup(_, _) => known,
-        Request::WriteRead { written: _, read: _ } => known,
+        Request::WriteRead {
+            written: _,
+            read: _,
+        } => known,
         Request::ReadBlock { curve: _, block: _ } => known,
         Request::WriteBlock { curve: _, block: _ } => known,
         Request::RenewSum(_) => known,
         Request::RunFunction(_) => known,
     }
 }
-
 
 // A reply to a request that went to this destination, heard: what it says, and the table after it. `bytes` are those that went with the
 // request.
@@ -274,7 +282,16 @@ pub fn hear(
         let y = tableOf (r .known) (now (sizes .exit)) (now (sets .exit)) (now (curves .exit)) (now (functions .exit)) in
         ⌜ heardLeft (r .told) y ≡ heardOf x destination request (now (bytes .entry)) (now (reply .entry)) ⌝ }
 {
-    let told = replies::read(known, sizes, sets, curves, functions, destination, request, reply);
+    let told = replies::read(
+        known,
+        sizes,
+        sets,
+        curves,
+        functions,
+        destination,
+        request,
+        reply,
+    );
     if !is_told(told) {
         return Heard { told, known };
     }
