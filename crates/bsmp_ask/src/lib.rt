@@ -1,7 +1,7 @@
 // The C face of the asking side: requests, replies and the learned table on numbers, slices and plain structs.
 use gateway::PlainAsked;
 use gateway::PlainHeard;
-use gateway::PlainPlace;
+use gateway_values::PlainPlace;
 use learned::LearnedTable;
 use plain::PlainSignedReading;
 use plain::PlainUnsignedReading;
@@ -76,7 +76,7 @@ pub extern "C" fn bsmp_hear_reply(
 #[no_mangle]
 pub extern "C" fn bsmp_hear_place(
     learned: &LearnedTable,
-    group: usize,
+    wanted: usize,
     variable: usize,
 ) -> PlainPlace {
     let variables = learned.variables;
@@ -84,7 +84,7 @@ pub extern "C" fn bsmp_hear_place(
     let groups = learned.groups;
     let curves = learned.curves;
     let functions = learned.functions;
-    gateway::place(
+    gateway_values::place(
         variables,
         writable,
         groups,
@@ -94,7 +94,7 @@ pub extern "C" fn bsmp_hear_place(
         &learned.shapes,
         &learned.sizes,
         &learned.calls,
-        group,
+        wanted,
         variable,
     )
 }
@@ -111,7 +111,7 @@ pub extern "C" fn bsmp_hear_signed(
     let groups = learned.groups;
     let curves = learned.curves;
     let functions = learned.functions;
-    gateway::read_signed(
+    gateway_values::read_signed(
         variables,
         writable,
         groups,
@@ -139,7 +139,7 @@ pub extern "C" fn bsmp_hear_unsigned(
     let groups = learned.groups;
     let curves = learned.curves;
     let functions = learned.functions;
-    gateway::read_unsigned(
+    gateway_values::read_unsigned(
         variables,
         writable,
         groups,
@@ -168,7 +168,7 @@ pub extern "C" fn bsmp_ask_signed(
     let groups = learned.groups;
     let curves = learned.curves;
     let functions = learned.functions;
-    gateway::write_signed(
+    gateway_values::write_signed(
         variables,
         writable,
         groups,
@@ -198,7 +198,7 @@ pub extern "C" fn bsmp_ask_unsigned(
     let groups = learned.groups;
     let curves = learned.curves;
     let functions = learned.functions;
-    gateway::write_unsigned(
+    gateway_values::write_unsigned(
         variables,
         writable,
         groups,

@@ -8,6 +8,9 @@ use Rattle.records.specs.Lending.{numbered, curveAt, functionAt, groupsBy, grou
 use Rattle.asking.specs.Learned.{Learned}
 use Rattle.learned.specs.declared.Known.{Known}
 
+abbrev pub knownBy : (variables writable groups curves functions : ℕ) → Known
+knownBy v w g c f = record { variables = v; writable = w; groups = g; curves = c; functions = f }
+
 -- so many sizes, curves and functions; more than there are places for break the rules
 unfoldable pub sizesIn : (count : ℕ) → List ℕ → List ℕ
 sizesIn n ss = numbered (λ i. getD ss i 0) n
