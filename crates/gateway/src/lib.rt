@@ -12,6 +12,10 @@ use bsmp::Refusal;
 use bsmp::VariableNumber;
 use learned::Known;
 use replies::Opened;
+ghost use mathlib.Core.Path.{_≡_};
+ghost use Rattle.asking.specs.declared.Told.the-variants as T;
+ghost use Rattle.learned.specs.Table.{knownBy, tableOf};
+ghost use Rattle.gateway.specs.Plain.{maskOf, masksVariable, masksGroup, namedOf, unnamed, plainAskedOf, plainAskedLeft, askOf, unheard, saidBy, shownBy, plainHeardOf, plainHeardLeft, hearOf, doneBy, knownIn};
 
 // How writing a request ended: refusal 0 and its length, or 01's or 02's number of the refusal and 0.
 #[repr(C)]
@@ -48,7 +52,9 @@ enum Mask {
     Nothing,
 }
 
-fn mask_of(code: u8) -> Mask {
+fn mask_of(code: u8) -> Mask
+    ensures { λ r. ⌜ r ≡ maskOf code ⌝ }
+{
     match code {
         Operation::SET => Mask::Is(Masking::Set),
         Operation::OR => Mask::Is(Masking::Or),
@@ -66,21 +72,27 @@ enum Named {
     Nothing,
 }
 
-fn mask_variable(i: VariableNumber, mask: Mask) -> Named {
+fn mask_variable(i: VariableNumber, mask: Mask) -> Named
+    ensures { λ r. ⌜ r ≡ masksVariable i mask ⌝ }
+{
     match mask {
         Mask::Is(operation) => Named::Is(Request::MaskVariable(i, operation)),
         Mask::Nothing => Named::Nothing,
     }
 }
 
-fn mask_group(g: GroupNumber, mask: Mask) -> Named {
+fn mask_group(g: GroupNumber, mask: Mask) -> Named
+    ensures { λ r. ⌜ r ≡ masksGroup g mask ⌝ }
+{
     match mask {
         Mask::Is(operation) => Named::Is(Request::MaskGroup(g, operation)),
         Mask::Nothing => Named::Nothing,
     }
 }
 
-fn named(code: u8, operation: u8, number: usize, other: usize, block: usize) -> Named {
+fn request_of(code: u8, operation: u8, number: usize, other: usize, block: usize) -> Named
+    ensures { λ r. ⌜ r ≡ namedOf code operation number other block ⌝ }
+{
     match code {
         Command::VERSION => Named::Is(Request::Version),
         Command::LIST_VARIABLES => Named::Is(Request::ListVariables),
@@ -116,17 +128,21 @@ fn named(code: u8, operation: u8, number: usize, other: usize, block: usize) -> 
 }
 
 // What can't be named can't be written, after refusals 2 and 3.
-fn unnamed(destination: u8, room: usize) -> Asked {
+fn unwritable(destination: u8, room: usize) -> Refusal
+    ensures { λ r. ⌜ r ≡ unnamed destination room ⌝ }
+{
     if !asking::is_address(destination) {
-        return Asked::Refused(Refusal::BadAddress);
+        return Refusal::BadAddress;
     }
     if room < 4104 {
-        return Asked::Refused(Refusal::ReplyBufferShort);
+        return Refusal::ReplyBufferShort;
     }
-    Asked::Refused(Refusal::RequestUnwritable)
+    Refusal::RequestUnwritable
 }
 
-fn asked_of(asked: Asked) -> PlainAsked {
+fn asked_of(asked: Asked) -> PlainAsked
+    ensures { λ r. ⌜ r ≡ plainAskedOf asked ⌝ }
+{
     match asked {
         Asked::Written(length) => PlainAsked { refusal: 0, length },
         Asked::Refused(refusal) => PlainAsked {
@@ -145,14 +161,22 @@ pub fn ask(
     block: usize,
     bytes: &[u8],
     packet: &mut [u8],
-) -> PlainAsked {
-    match named(code, operation, number, other, block) {
+) -> PlainAsked
+    ensures { λ r. let request = namedOf code operation number other block in
+        ⌜ plainAskedLeft r (now (packet .exit)) ≡ askOf destination request (now (bytes .entry)) (now (packet .entry)) ⌝ }
+{
+    match request_of(code, operation, number, other, block) {
         Named::Is(request) => asked_of(requests::ask(destination, request, bytes, packet)),
-        Named::Nothing => asked_of(unnamed(destination, packet.len())),
+        Named::Nothing => {
+            let refusal = unwritable(destination, packet.len());
+            asked_of(Asked::Refused(refusal))
+        }
     }
 }
 
-fn refused(refusal: Refusal) -> PlainHeard {
+fn refused(refusal: Refusal) -> PlainHeard
+    ensures { λ r. ⌜ r ≡ plainHeardOf (T.Refused refusal) ⌝ }
+{
     PlainHeard {
         kind: 0,
         refusal: refusal.number(),
@@ -162,7 +186,9 @@ fn refused(refusal: Refusal) -> PlainHeard {
     }
 }
 
-fn said(kind: u8, error: u8) -> PlainHeard {
+fn said(kind: u8, error: u8) -> PlainHeard
+    ensures { λ r. ⌜ r ≡ saidBy kind error ⌝ }
+{
     PlainHeard {
         kind,
         refusal: 0,
@@ -172,7 +198,9 @@ fn said(kind: u8, error: u8) -> PlainHeard {
     }
 }
 
-fn shown(kind: u8, place: usize, length: usize) -> PlainHeard {
+fn shown(kind: u8, place: usize, length: usize) -> PlainHeard
+    ensures { λ r. ⌜ r ≡ shownBy kind place length ⌝ }
+{
     PlainHeard {
         kind,
         refusal: 0,
@@ -182,7 +210,9 @@ fn shown(kind: u8, place: usize, length: usize) -> PlainHeard {
     }
 }
 
-fn heard_of(told: Told) -> PlainHeard {
+fn heard_of(told: Told) -> PlainHeard
+    ensures { λ r. ⌜ r ≡ plainHeardOf told ⌝ }
+{
     match told {
         Told::Error(error) => said(1, error.code()),
         Told::Done => said(2, 0),
@@ -202,14 +232,18 @@ fn heard_of(told: Told) -> PlainHeard {
 }
 
 // A reply to what can't be named fits nothing.
-fn unheard(destination: u8, reply: &[u8]) -> Told {
+fn unfitting(destination: u8, reply: &[u8]) -> Refusal
+    ensures { λ r. ⌜ r ≡ unheard destination (now (reply .entry)) ⌝ }
+{
     match replies::open(destination, reply) {
-        Opened::Message => Told::Refused(Refusal::ReplyUnfit),
-        Opened::Refused(refusal) => Told::Refused(refusal),
+        Opened::Message => Refusal::ReplyUnfit,
+        Opened::Refused(refusal) => refusal,
     }
 }
 
-fn done(heard: PlainHeard, known: Known) -> PlainDone {
+fn done(heard: PlainHeard, known: Known) -> PlainDone
+    ensures { λ r. ⌜ r ≡ doneBy heard known ⌝ }
+{
     PlainDone {
         heard,
         variables: known.variables,
@@ -238,7 +272,13 @@ pub fn hear(
     block: usize,
     bytes: &[u8],
     reply: &[u8],
-) -> PlainDone {
+) -> PlainDone
+    ensures { λ r. let known = knownBy variables writable groups curves functions in
+        let x = tableOf known (now (sizes .entry)) (now (sets .entry)) (now (shapes .entry)) (now (calls .entry)) in
+        let y = tableOf (knownIn r) (now (sizes .exit)) (now (sets .exit)) (now (shapes .exit)) (now (calls .exit)) in
+        let request = namedOf code operation number other block in
+        ⌜ plainHeardLeft (r .heard) y ≡ hearOf x destination request (now (bytes .entry)) (now (reply .entry)) ⌝ }
+{
     let known = Known {
         variables,
         writable,
@@ -246,7 +286,7 @@ pub fn hear(
         curves,
         functions,
     };
-    match named(code, operation, number, other, block) {
+    match request_of(code, operation, number, other, block) {
         Named::Is(request) => {
             let heard = learning::hear(
                 known,
@@ -263,6 +303,9 @@ pub fn hear(
             let after = heard.known;
             done(heard_of(told), after)
         }
-        Named::Nothing => done(heard_of(unheard(destination, reply)), known),
+        Named::Nothing => {
+            let refusal = unfitting(destination, reply);
+            done(refused(refusal), known)
+        }
     }
 }
