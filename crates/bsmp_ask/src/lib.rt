@@ -5,6 +5,14 @@ use gateway_values::PlainPlace;
 use learned::LearnedTable;
 use plain::PlainSignedReading;
 use plain::PlainUnsignedReading;
+ghost use mathlib.Core.Path.{_≡_};
+ghost use mathlib.Core.Bool.{true, false};
+ghost use lib.IntN.{pos};
+ghost use Rattle.plain.specs.Numbers.{signedSays, unsignedSays};
+ghost use Rattle.plain.specs.Calls.{plainBytesLeft};
+ghost use Rattle.learned.specs.Table.{heldTable};
+ghost use Rattle.gateway.specs.Plain.{namedOf, plainAskedLeft, askOf, plainHeardLeft};
+ghost use Rattle.bsmp_ask.specs.Calls.{hearCall, placeCall, readCall, writeCall};
 
 #[no_mangle]
 pub extern "C" fn bsmp_ask_packet(
@@ -16,7 +24,10 @@ pub extern "C" fn bsmp_ask_packet(
     block: usize,
     bytes: &[u8],
     packet: &mut [u8],
-) -> PlainAsked {
+) -> PlainAsked
+    ensures { λ r. let request = namedOf code operation number other block in
+        ⌜ plainAskedLeft r (now (packet .exit)) ≡ askOf destination request (now (bytes .entry)) (now (packet .entry)) ⌝ }
+{
     gateway::ask(
         destination,
         code,
@@ -40,7 +51,10 @@ pub extern "C" fn bsmp_hear_reply(
     block: usize,
     bytes: &[u8],
     reply: &[u8],
-) -> PlainHeard {
+) -> PlainHeard
+    ensures { λ r. ⌜ plainHeardLeft r (heldTable (now (learned .exit)))
+        ≡ hearCall (now (learned .entry)) destination code operation number other block (now (bytes .entry)) (now (reply .entry)) ⌝ }
+{
     let variables = learned.variables;
     let writable = learned.writable;
     let groups = learned.groups;
@@ -78,7 +92,9 @@ pub extern "C" fn bsmp_hear_place(
     learned: &LearnedTable,
     wanted: usize,
     variable: usize,
-) -> PlainPlace {
+) -> PlainPlace
+    ensures { λ r. ⌜ r ≡ placeCall (now (learned .entry)) wanted variable ⌝ }
+{
     let variables = learned.variables;
     let writable = learned.writable;
     let groups = learned.groups;
@@ -105,7 +121,9 @@ pub extern "C" fn bsmp_hear_signed(
     kinds: &[u8],
     variable: usize,
     bytes: &[u8],
-) -> PlainSignedReading {
+) -> PlainSignedReading
+    ensures { λ r. ⌜ signedSays r ≡ readCall (now (learned .entry)) (now (kinds .entry)) variable true (now (bytes .entry)) ⌝ }
+{
     let variables = learned.variables;
     let writable = learned.writable;
     let groups = learned.groups;
@@ -133,7 +151,9 @@ pub extern "C" fn bsmp_hear_unsigned(
     kinds: &[u8],
     variable: usize,
     bytes: &[u8],
-) -> PlainUnsignedReading {
+) -> PlainUnsignedReading
+    ensures { λ r. ⌜ unsignedSays r ≡ readCall (now (learned .entry)) (now (kinds .entry)) variable false (now (bytes .entry)) ⌝ }
+{
     let variables = learned.variables;
     let writable = learned.writable;
     let groups = learned.groups;
@@ -162,7 +182,9 @@ pub extern "C" fn bsmp_ask_signed(
     variable: usize,
     number: i64,
     buffer: &mut [u8],
-) -> u8 {
+) -> u8
+    ensures { λ r. ⌜ plainBytesLeft r (now (buffer .exit)) ≡ writeCall (now (learned .entry)) (now (kinds .entry)) variable true number (now (buffer .entry)) ⌝ }
+{
     let variables = learned.variables;
     let writable = learned.writable;
     let groups = learned.groups;
@@ -192,7 +214,9 @@ pub extern "C" fn bsmp_ask_unsigned(
     variable: usize,
     number: u64,
     buffer: &mut [u8],
-) -> u8 {
+) -> u8
+    ensures { λ r. ⌜ plainBytesLeft r (now (buffer .exit)) ≡ writeCall (now (learned .entry)) (now (kinds .entry)) variable false (pos number) (now (buffer .entry)) ⌝ }
+{
     let variables = learned.variables;
     let writable = learned.writable;
     let groups = learned.groups;

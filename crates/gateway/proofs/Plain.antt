@@ -31,7 +31,7 @@ use Rattle.gateway.specs.declared.Named.{Named}
 use Rattle.gateway.specs.declared.Named.the-variants as N
 use Rattle.gateway.specs.declared.PlainAsked.{PlainAsked}
 use Rattle.gateway.specs.declared.PlainHeard.{PlainHeard}
-use Rattle.gateway.specs.declared.PlainDone.{PlainDone}
+use Rattle.gateway.specs.declared.HeardDone.{HeardDone}
 use Rattle.gateway.specs.Plain.{unnamed, plainAskedOf, plainAskedLeft, askOf, unheard, saidBy, plainHeardOf, PlainHeardLeft, plainHeardLeft, hearOf, doneBy, knownIn}
 
 -- what a match found ---------------------------------------------------------------------------------------------------------------
@@ -80,7 +80,7 @@ module _ (to : ℕ) (r m : Named) (named : m ≡ r) (d b b′ : List ℕ) where
   pub ask-unnamed : (n : Refusal) (x : PlainAsked) → m ≡ N.Nothing → n ≡ unnamed to (length b) → x ≡ plainAskedOf (A.Refused n) → plainAskedLeft x b ≡ askOf to r d b
   ask-unnamed n x e h f = rw (sym named ∙ e) (ap (λ y. plainAskedLeft y b) (f ∙ ap (λ z. plainAskedOf (A.Refused z)) h))
 
-module _ (x : Learned) (to : ℕ) (r m : Named) (named : m ≡ r) (d q : List ℕ) (k : Known) (ss gs cs fs : List ℕ) (h : PlainHeard) (p : PlainDone) (done : p ≡ doneBy h k) where
+module _ (x : Learned) (to : ℕ) (r m : Named) (named : m ≡ r) (d q : List ℕ) (k : Known) (ss gs cs fs : List ℕ) (h : PlainHeard) (p : HeardDone) (done : p ≡ doneBy h k) where
   abbrev left : PlainHeardLeft
   left = plainHeardLeft (p .heard) (tableOf (knownIn p) ss gs cs fs)
 

@@ -26,16 +26,15 @@ use Rattle.asking.specs.declared.Told.{Told}
 use Rattle.asking.specs.declared.Told.the-variants as T
 use Rattle.requests.specs.Writing.{AskedLeft, askedOf}
 use Rattle.replies.specs.Reading.{openTests}
-use Rattle.learned.specs.Table.{knownBy, tableOf}
+use Rattle.learned.specs.Table.{knownBy}
 use Rattle.learned.specs.declared.Known.{Known}
-use Rattle.learned.specs.declared.LearnedTable.{LearnedTable}
 use Rattle.gateway.specs.declared.Mask.{Mask}
 use Rattle.gateway.specs.declared.Mask.the-variants as M
 use Rattle.gateway.specs.declared.Named.{Named}
 use Rattle.gateway.specs.declared.Named.the-variants as N
 use Rattle.gateway.specs.declared.PlainAsked.{PlainAsked}
 use Rattle.gateway.specs.declared.PlainHeard.{PlainHeard}
-use Rattle.gateway.specs.declared.PlainDone.{PlainDone}
+use Rattle.gateway.specs.declared.HeardDone.{HeardDone}
 
 -- "53 set and 4F or; 43 clear; 54 toggle and 58 xor; 41 and" ------------------------------------------------------------------
 abbrev pub masks : List (ℕ × Mask)
@@ -134,16 +133,11 @@ plainHeardOf (T.Failed e) = saidBy 13 e
 plainHeardOf (T.Refused n) = record { kind = 0; refusal = refusalNumber n; error = 0; place = 0; length = 0 }
 
 -- what was heard and how much is known then, in one struct
-abbrev pub doneBy : PlainHeard → Known → PlainDone
+abbrev pub doneBy : PlainHeard → Known → HeardDone
 doneBy h k = record { heard = h; variables = k .variables; writable = k .writable; groups = k .groups; curves = k .curves; functions = k .functions }
 
-abbrev pub knownIn : PlainDone → Known
+abbrev pub knownIn : HeardDone → Known
 knownIn r = knownBy (r .variables) (r .writable) (r .groups) (r .curves) (r .functions)
-
--- the table that a struct holds
-abbrev pub heldTable : LearnedTable → Learned
-heldTable t =
-    tableOf (knownBy (t .variables) (t .writable) (t .groups) (t .curves) (t .functions)) (t .sizes) (t .sets) (t .shapes) (t .calls)
 
 -- what a call leaves: what was heard, and the table
 pub record PlainHeardLeft : Type 0 where

@@ -37,7 +37,7 @@ pub struct PlainHeard {
 }
 
 // What was heard, and how much is known then.
-pub struct PlainDone {
+pub struct HeardDone {
     pub heard: PlainHeard,
     pub variables: u64,
     pub writable: u64,
@@ -241,10 +241,10 @@ fn unfitting(destination: u8, reply: &[u8]) -> Refusal
     }
 }
 
-fn done(heard: PlainHeard, known: Known) -> PlainDone
+fn done(heard: PlainHeard, known: Known) -> HeardDone
     ensures { λ r. ⌜ r ≡ doneBy heard known ⌝ }
 {
-    PlainDone {
+    HeardDone {
         heard,
         variables: known.variables,
         writable: known.writable,
@@ -272,7 +272,7 @@ pub fn hear(
     block: usize,
     bytes: &[u8],
     reply: &[u8],
-) -> PlainDone
+) -> HeardDone
     ensures { λ r. let known = knownBy variables writable groups curves functions in
         let x = tableOf known (now (sizes .entry)) (now (sets .entry)) (now (shapes .entry)) (now (calls .entry)) in
         let y = tableOf (knownIn r) (now (sizes .exit)) (now (sets .exit)) (now (shapes .exit)) (now (calls .exit)) in

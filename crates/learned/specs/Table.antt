@@ -7,6 +7,7 @@ use Rattle.bsmp.specs.declared.Function.{Function}
 use Rattle.records.specs.Lending.{numbered, curveAt, functionAt, groupsBy, groupsOf, curvesOf, functionsOf}
 use Rattle.asking.specs.Learned.{Learned}
 use Rattle.learned.specs.declared.Known.{Known}
+use Rattle.learned.specs.declared.LearnedTable.{LearnedTable}
 
 abbrev pub knownBy : (variables writable groups curves functions : ℕ) → Known
 knownBy v w g c f = record { variables = v; writable = w; groups = g; curves = c; functions = f }
@@ -37,3 +38,11 @@ tableOf k ss gs cs fs = record {
 -- a table that is lent by the fronts of its places
 abbrev pub tableIn : (sizes : List ℕ) → (writable : ℕ) → (groups curves functions : List ℕ) → Learned
 tableIn ss w gs cs fs = record { layout = record { sizes = ss; writable = w; curves = curvesOf cs; functions = functionsOf fs }; groups = gs }
+
+-- the table in one struct, by its fields, and what it holds
+abbrev pub learnedBy : (variables writable groups curves functions : ℕ) → (sets shapes sizes calls : List ℕ) → LearnedTable
+learnedBy v w g c f gs cs ss fs = record { variables = v; writable = w; groups = g; curves = c; functions = f; sets = gs; shapes = cs; sizes = ss; calls = fs }
+
+abbrev pub heldTable : LearnedTable → Learned
+heldTable t =
+    tableOf (knownBy (t .variables) (t .writable) (t .groups) (t .curves) (t .functions)) (t .sizes) (t .sets) (t .shapes) (t .calls)
