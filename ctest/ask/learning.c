@@ -217,6 +217,20 @@ static void try_whole_lists(int way)
     expect_list(way, variables, 0x05, "01", 3, false);
 }
 
+/* The most blocks, which are sent as 0, and the most bytes of two curves. */
+static void try_largest_curves(int way)
+{
+    struct bsmp_learned learned = nothing_known();
+    const struct bsmp_request request = bsmp_request_list_curves();
+    expect_heard("65,536 blocks", way, &learned, request, "00 09 00 05 01 00 01 00 00 =", "curves at 4, 1: 01 00 01 00 00");
+    expect_table("65,536 blocks", way, &learned, "; 1wx65536");
+    expect_heard("65,536 bytes", way, &learned, request, "00 09 00 0A 01 00 01 FF FF 00 00 01 00 01 =",
+                 "curves at 4, 2: 01 00 01 FF FF 00 00 01 00 01");
+    expect_table("65,536 bytes", way, &learned, "; 1wx65535; 1rx1");
+    expect_heard("65,537 bytes", way, &learned, request, "00 09 00 0A 01 00 01 00 00 00 00 01 00 01 =", "refused 13");
+    expect_table("65,537 bytes", way, &learned, "; 1wx65535; 1rx1");
+}
+
 /* Full lists, each record in its place. */
 static void try_full_lists(int way)
 {
@@ -327,6 +341,7 @@ static void try_group_lists(int way)
 void try_lists(int way)
 {
     try_whole_lists(way);
+    try_largest_curves(way);
     try_full_lists(way);
     try_group_lists(way);
 }
