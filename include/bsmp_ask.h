@@ -15,9 +15,10 @@
  * bsmp_hear_unsigned, bsmp_ask_signed and bsmp_ask_unsigned, for numbers. The bsmp_listed_.., which are inline too, read single
  * records of a list. examples/first_ask.c is the shortest program.
  *
- * Link with libbsmp_ask.a. It needs nothing of libbsmp_c.a, the node's library, and the other way round: who only asks links the one,
- * who only answers the other, who does both links both. Like the node's it is there as the proved archive, for x86-64, and as the
- * portable edition; bsmp.h says of both what they are, and what they call.
+ * Link with libbsmp_ask.a. It needs nothing of libbsmp_c.a, the node's library, and that nothing of it: who only asks links the one, who
+ * only answers the other, who does both links both. Like the node's it is there as the proved archive, for x86-64, and as the portable
+ * edition; bsmp.h says of both what they are, and what they call. No call takes over 1,024 bytes of stack beyond its arguments
+ * (ctest/stack.c measures it).
  *
  * Duties of the caller. Nothing can check them, and a call that breaks one may do anything:
  *   - Every pointer is valid for its length, which counts elements, and is aligned as its type asks.
