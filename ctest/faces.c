@@ -36,7 +36,7 @@ static void try_words(void)
     static const char *const words[] = {
         "not refused",        "board unusable",   "bad address",   "reply buffer short", "packet length",    "checksum",
         "not for this board", "no such function", "output length", "no such variable",   "wrong byte count", "wrong kind",
-        "doesn't fit",        "unknown refusal",
+        "doesn't fit",        "reply doesn't fit the request", "request can't be written", "unknown refusal",
     };
     for (size_t i = 0; i < sizeof words / sizeof words[0]; i++) check_text("words", INLINE, bsmp_refusal_words(i), words[i]);
 }

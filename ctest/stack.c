@@ -1,5 +1,6 @@
 /* How much stack each call needs, on the largest board: every command, every wire error, every refusal, every entry. Calls that work
- * out sums have a limit of their own.
+ * out sums have a limit of their own. With ASKING defined, and libbsmp_ask.a linked too, the asking side's calls are measured likewise, with
+ * the largest table, and have a limit of their own too.
  *
  * Each call runs on a stack of its own that was painted before; the deepest byte that lost its paint says how far the call went.
  * The same call is also made to a function that returns at once. What that takes is the caller's: the arguments that it pushes,
@@ -7,6 +8,9 @@
  * are pushed, which with the return address is 144 bytes.) The difference is what the library needs beyond that, with memcpy and
  * memset. For x86-64, aarch64 and 32-bit ARM. */
 #include "bsmp.h"
+#ifdef ASKING
+#include "bsmp_ask.h"
+#endif
 
 #include <stdio.h>
 #include <string.h>
@@ -16,6 +20,9 @@
 #endif
 #ifndef MOST_SUM_STACK
 #define MOST_SUM_STACK 1280
+#endif
+#ifndef MOST_ASKING_STACK
+#define MOST_ASKING_STACK 1024
 #endif
 
 /* ---- The board: 64 variables of 4,096 bytes, 8 curves of 65,536 in 16 full blocks, 16 functions, five groups of all 64 ---- */
@@ -84,10 +91,12 @@ struct call {
     size_t length;
     int64_t value;
     bool failed;
+    bool hears;            /* the packet is a reply, to a request of this code, with `number` */
+    uint8_t asked;
 };
 
-/* A reply is told by its command code, a sum by its first byte. */
-enum { SILENT = 0x100, RUN = 0x101, DONE = 0x102, REFUSED = 0x200 };
+/* A reply is told by its command code, a sum by its first byte, a request by its code, what is heard by its kind or the error's code. */
+enum { SILENT = 0x100, RUN = 0x101, DONE = 0x102, REFUSED = 0x200, HEARD = 0x300 };
 
 static struct bsmp_outcome outcome;
 static uint64_t refusal;
@@ -356,6 +365,189 @@ static const struct call unsigned_writings[] = {
     {"refusal 12", REFUSED + 12, .number = SHORT_UNSIGNED, .length = 1, .value = 256},
 };
 
+/* ---- The asking side: a table of the largest board, which every call is lent ---- */
+
+#ifdef ASKING
+static struct bsmp_learned learned;
+static uint8_t kinds_supplied[BSMP_MOST_VARIABLES];
+static uint8_t destination;
+static struct bsmp_asked asked;
+static struct bsmp_heard heard;
+
+static void make_learned(void)
+{
+    memset(&learned, 0xFF, sizeof learned); /* the sets and marks of all */
+    learned.variable_count = BSMP_MOST_VARIABLES;
+    learned.group_count = BSMP_MOST_MADE_GROUPS;
+    learned.curve_count = BSMP_MOST_CURVES;
+    learned.function_count = BSMP_MOST_FUNCTIONS;
+    memcpy(learned.curves, curves, sizeof curves);
+    memcpy(learned.functions, functions, sizeof functions);
+    for (size_t i = 0; i < BSMP_MOST_VARIABLES; i++) learned.sizes[i] = variables[i].size;
+    for (size_t i = 0; i < BSMP_MOST_VARIABLES; i++) kinds_supplied[i] = variables[i].kind;
+    destination = 5;
+}
+
+static unsigned asked_ended(void)
+{
+    return asked.refusal == BSMP_NOT_REFUSED ? reply[1] : REFUSED + asked.refusal;
+}
+
+static unsigned heard_ended(void)
+{
+    if (heard.kind == BSMP_HEARD_REFUSED) return REFUSED + heard.refusal;
+    return heard.kind == BSMP_HEARD_ERROR ? heard.error : HEARD + heard.kind;
+}
+
+static void call_ask_packet(void)
+{
+    asked = ENTRY(bsmp_ask_packet)(destination, current->command, 'X', current->number, LAST_VARIABLE - 1, 1, zeros,
+                                   current->length, reply, room);
+}
+
+static void call_hear_reply(void)
+{
+    heard = ENTRY(bsmp_hear_reply)(&learned, destination, current->asked, 'X', current->number, LAST_VARIABLE, 1, zeros,
+                                   BSMP_MOST_VARIABLES, packet, packet_length);
+}
+
+static void call_hear_place(void)
+{
+    refusal = ENTRY(bsmp_hear_place)(&learned, current->length, current->number).refusal;
+}
+
+static void call_hear_signed(void)
+{
+    refusal = ENTRY(bsmp_hear_signed)(&learned, kinds_supplied, BSMP_MOST_VARIABLES, current->number, bytes, current->length).refusal;
+}
+
+static void call_hear_unsigned(void)
+{
+    refusal = ENTRY(bsmp_hear_unsigned)(&learned, kinds_supplied, BSMP_MOST_VARIABLES, current->number, bytes, current->length).refusal;
+}
+
+static void call_ask_signed(void)
+{
+    refusal = ENTRY(bsmp_ask_signed)(&learned, kinds_supplied, BSMP_MOST_VARIABLES, current->number, current->value, bytes,
+                                     current->length);
+}
+
+static void call_ask_unsigned(void)
+{
+    refusal = ENTRY(bsmp_ask_unsigned)(&learned, kinds_supplied, BSMP_MOST_VARIABLES, current->number, (uint64_t)current->value,
+                                       bytes, current->length);
+}
+
+/* What can be unlike the largest good call, and the lists, whose records are not any bytes. */
+
+static void to_nobody(void) { destination = 0; }
+static void to_many(void) { destination = 255; }
+static void four_known(void) { learned.group_count = 4; }
+static void six_known(void) { learned.group_count = 6; }
+static void none_known(void) { learned.variable_count = 0; }
+
+static void list_as(const void *record, size_t size)
+{
+    for (size_t place = 4; place < packet_length - 1; place += size) memcpy(packet + place, record, size);
+    packet[packet_length - 1] = bsmp_checksum(packet, packet_length - 1);
+}
+
+static void variables_of_64(void) { list_as("\xC0", 1); }
+static void groups_of_64(void) { list_as("\xC0", 1); }
+static void curves_of_8192(void) { list_as("\x01\x10\x00\x00\x02", 5); }
+
+static const struct call asks[] = {
+    {"00 version", 0x00, .command = 0x00},
+    {"02 list of variables", 0x02, .command = 0x02},
+    {"04 list of groups", 0x04, .command = 0x04},
+    {"06 group", 0x06, .command = 0x06, .number = GROUP},
+    {"08 list of curves", 0x08, .command = 0x08},
+    {"0A read sum", 0x0A, .command = 0x0A, .number = LAST_CURVE},
+    {"0C list of functions", 0x0C, .command = 0x0C},
+    {"10 read variable", 0x10, .command = 0x10, .number = LAST_VARIABLE},
+    {"12 read group", 0x12, .command = 0x12, .number = GROUP},
+    {"20 write variable", 0x20, .command = 0x20, .number = LAST_VARIABLE, .length = LAST_SIZE},
+    {"22 write group", 0x22, .command = 0x22, .number = GROUP, .length = BSMP_MOST_VALUE_BYTES},
+    {"24 mask variable", 0x24, .command = 0x24, .number = LAST_VARIABLE, .length = LAST_SIZE},
+    {"26 mask group", 0x26, .command = 0x26, .number = GROUP, .length = BSMP_MOST_VALUE_BYTES},
+    {"28 write and read", 0x28, .command = 0x28, .number = LAST_VARIABLE, .length = LAST_SIZE},
+    {"30 make group", 0x30, .command = 0x30, .length = BSMP_MOST_VARIABLES},
+    {"30 make group, of the longest", 0x30, .command = 0x30, .length = BSMP_MOST_PAYLOAD},
+    {"32 remove groups", 0x32, .command = 0x32},
+    {"40 read block", 0x40, .command = 0x40, .number = LAST_CURVE},
+    {"41 write block", 0x41, .command = 0x41, .number = LAST_CURVE, .length = BSMP_MOST_BLOCK_SIZE},
+    {"42 renew sum", 0x42, .command = 0x42, .number = LAST_CURVE},
+    {"50 run function", 0x50, .command = 0x50, .number = LAST_FUNCTION, .length = BSMP_MOST_INPUT},
+    {"22 to many", 0x22, to_many, .command = 0x22, .number = GROUP, .length = BSMP_MOST_VALUE_BYTES},
+    {"refusal 2", REFUSED + 2, to_nobody, .command = 0x41, .number = LAST_CURVE, .length = BSMP_MOST_BLOCK_SIZE},
+    {"refusal 3", REFUSED + 3, room_short, .command = 0x41, .number = LAST_CURVE, .length = BSMP_MOST_BLOCK_SIZE},
+    {"refusal 14 for a number", REFUSED + 14, .command = 0x41, .number = 256, .length = BSMP_MOST_BLOCK_SIZE},
+    {"refusal 14 for a payload", REFUSED + 14, .command = 0x41, .number = LAST_CURVE, .length = BSMP_MOST_BLOCK_SIZE + 1},
+    {"refusal 14 for a code", REFUSED + 14, .command = 0x7F},
+};
+
+#define TO(code) .hears = true, .asked = code
+#define BLOCK_TO_40 0x41, ON(LAST_CURVE, 0, 1), .rest = BSMP_MOST_BLOCK_SIZE, TO(0x40), .number = LAST_CURVE
+static const struct call hearings[] = {
+    {"01 to 00", HEARD + BSMP_HEARD_VERSION, NULL, 0x01, ON(2, 20, 0), TO(0x00)},
+    {"03 to 02", HEARD + BSMP_HEARD_VARIABLES, variables_of_64, 0x03, .rest = BSMP_MOST_VARIABLES, TO(0x02)},
+    {"05 to 04", HEARD + BSMP_HEARD_GROUPS, groups_of_64, 0x05, .rest = GROUP + 1, TO(0x04)},
+    {"07 to 06", HEARD + BSMP_HEARD_MEMBERS, NULL, 0x07, .rest = BSMP_MOST_VARIABLES, TO(0x06), .number = GROUP},
+    {"07 to 06 of the next group", HEARD + BSMP_HEARD_MEMBERS, four_known, 0x07, .rest = BSMP_MOST_VARIABLES, TO(0x06), .number = GROUP},
+    {"09 to 08", HEARD + BSMP_HEARD_CURVES, curves_of_8192, 0x09, .rest = 5 * BSMP_MOST_CURVES, TO(0x08)},
+    {"0B to 0A", HEARD + BSMP_HEARD_SUM, NULL, 0x0B, .rest = BSMP_SUM_SIZE, TO(0x0A), .number = LAST_CURVE},
+    {"0D to 0C", HEARD + BSMP_HEARD_FUNCTIONS, NULL, 0x0D, .rest = BSMP_MOST_FUNCTIONS, TO(0x0C)},
+    {"11 to 10", HEARD + BSMP_HEARD_VALUES, NULL, 0x11, .rest = LAST_SIZE, TO(0x10), .number = LAST_VARIABLE},
+    {"13 to 12", HEARD + BSMP_HEARD_VALUES, NULL, 0x13, .rest = BSMP_MOST_VALUE_BYTES, TO(0x12), .number = GROUP},
+    {"13 to 12 of all", HEARD + BSMP_HEARD_VALUES, NULL, 0x13, .rest = BSMP_MOST_VALUE_BYTES, TO(0x12), .number = 0},
+    {"E0 to 20", HEARD + BSMP_HEARD_DONE, NULL, 0xE0, TO(0x20)},
+    {"E0 to 22", HEARD + BSMP_HEARD_DONE, NULL, 0xE0, TO(0x22)},
+    {"E0 to 24", HEARD + BSMP_HEARD_DONE, NULL, 0xE0, TO(0x24)},
+    {"E0 to 26", HEARD + BSMP_HEARD_DONE, NULL, 0xE0, TO(0x26)},
+    {"11 to 28", HEARD + BSMP_HEARD_VALUES, NULL, 0x11, .rest = LAST_SIZE, TO(0x28), .number = LAST_VARIABLE},
+    {"E0 to 30", HEARD + BSMP_HEARD_DONE, four_known, 0xE0, TO(0x30)},
+    {"E0 to 32", HEARD + BSMP_HEARD_DONE, NULL, 0xE0, TO(0x32)},
+    {"41 to 40", HEARD + BSMP_HEARD_BLOCK, NULL, BLOCK_TO_40},
+    {"E0 to 41", HEARD + BSMP_HEARD_DONE, NULL, 0xE0, TO(0x41)},
+    {"E0 to 42", HEARD + BSMP_HEARD_DONE, NULL, 0xE0, TO(0x42)},
+    {"51 to 50", HEARD + BSMP_HEARD_OUTPUT, NULL, 0x51, .rest = BSMP_MOST_OUTPUT, TO(0x50), .number = LAST_FUNCTION},
+    {"53 to 50", HEARD + BSMP_HEARD_FAILED, NULL, 0x53, ON(7), TO(0x50), .number = LAST_FUNCTION},
+    {"error E8 to 12", 0xE8, NULL, 0xE8, TO(0x12), .number = GROUP},
+    {"refusal 1", REFUSED + 1, six_known, BLOCK_TO_40},
+    {"refusal 2", REFUSED + 2, to_nobody, BLOCK_TO_40},
+    {"refusal 4", REFUSED + 4, packet_long, BLOCK_TO_40},
+    {"refusal 5", REFUSED + 5, sum_wrong, BLOCK_TO_40},
+    {"refusal 13", REFUSED + 13, size_wrong, BLOCK_TO_40},
+    {"refusal 13 for a request to many", REFUSED + 13, to_many, BLOCK_TO_40},
+    {"refusal 13 for a code", REFUSED + 13, NULL, 0xE0, TO(0x7F)},
+};
+
+/* `length` is the group. */
+static const struct call places[] = {
+    {"done", DONE, .number = LAST_VARIABLE, .length = GROUP},
+    {"done, of all", DONE, .number = LAST_VARIABLE, .length = 0},
+    {"refusal 1", REFUSED + 1, six_known, .number = LAST_VARIABLE, .length = GROUP},
+    {"refusal 9", REFUSED + 9, .number = LAST_VARIABLE + 1, .length = GROUP},
+    {"refusal 9 for a group", REFUSED + 9, .number = LAST_VARIABLE, .length = GROUP + 1},
+};
+
+#define HEARINGS(own, other) \
+    {"done", DONE, .number = own, .length = 8}, {"refusal 1", REFUSED + 1, none_known, .number = own, .length = 8}, \
+        {"refusal 9", REFUSED + 9, .number = LAST_VARIABLE + 1, .length = 8}, \
+        {"refusal 10", REFUSED + 10, .number = own, .length = 7}, {"refusal 11", REFUSED + 11, .number = other, .length = 8}
+
+static const struct call signed_hearings[] = {HEARINGS(SIGNED, UNSIGNED)};
+static const struct call unsigned_hearings[] = {HEARINGS(UNSIGNED, SIGNED)};
+static const struct call signed_asks[] = {
+    HEARINGS(SIGNED, UNSIGNED),
+    {"refusal 12", REFUSED + 12, .number = SHORT_SIGNED, .length = 1, .value = 128},
+};
+static const struct call unsigned_asks[] = {
+    HEARINGS(UNSIGNED, SIGNED),
+    {"refusal 12", REFUSED + 12, .number = SHORT_UNSIGNED, .length = 1, .value = 256},
+};
+#endif
+
 /* ---- Painting ---- */
 
 static uint8_t area[64 * 1024] __attribute__((aligned(64)));
@@ -373,10 +565,13 @@ static void prepare(const struct call *call)
     memset(state.groups.sets, 0xFF, sizeof state.groups.sets);
     busy = 0;
     room = sizeof reply;
+#ifdef ASKING
+    make_learned();
+#endif
 
     size_t size = call->front_length + call->rest;
     packet_length = size + 5;
-    packet[0] = board.own;
+    packet[0] = call->hears ? 0 : board.own;
     packet[1] = call->command;
     packet[2] = (uint8_t)(size >> 8);
     packet[3] = (uint8_t)size;
@@ -410,29 +605,41 @@ static size_t deepest(void (*make)(void), const struct call *call, void (*functi
 
 /* ---- Figures ---- */
 
+/* Sorts of calls, each with a limit: those that work out no sums, those that do, and the asking side's. */
+enum sort { NO_SUMS, SUMS, ASKS, SORTS };
+
 struct kind {
     const char *name;
     void (*make)(void);
     void (*function)(void);
     unsigned (*ended)(void);
-    bool sums; /* whether its calls work out sums */
+    enum sort sort;
     const struct call *calls;
     size_t count;
 };
 
 #define CALLS(array) array, sizeof array / sizeof array[0]
 static const struct kind kinds[] = {
-    {"bsmp_packet", call_packet, (void (*)(void))bsmp_packet, outcome_ended, false, CALLS(packets)},
-    {"bsmp_packet with 42", call_packet, (void (*)(void))bsmp_packet, outcome_ended, true, CALLS(renewals)},
-    {"bsmp_function_result", call_function_result, (void (*)(void))bsmp_function_result, outcome_ended, false, CALLS(results)},
-    {"bsmp_board_store", call_board_store, (void (*)(void))bsmp_board_store, refusal_ended, false, CALLS(stores)},
-    {"bsmp_fresh_board", call_fresh_board, (void (*)(void))bsmp_fresh_board, refusal_ended, true, CALLS(fresh_boards)},
-    {"bsmp_fresh_board refused", call_fresh_board, (void (*)(void))bsmp_fresh_board, refusal_ended, false, CALLS(refused_fresh_boards)},
-    {"bsmp_md5", call_md5, (void (*)(void))bsmp_md5, sum_ended, true, CALLS(messages)},
-    {"bsmp_read_signed", call_read_signed, (void (*)(void))bsmp_read_signed, refusal_ended, false, CALLS(signed_readings)},
-    {"bsmp_read_unsigned", call_read_unsigned, (void (*)(void))bsmp_read_unsigned, refusal_ended, false, CALLS(unsigned_readings)},
-    {"bsmp_write_signed", call_write_signed, (void (*)(void))bsmp_write_signed, refusal_ended, false, CALLS(signed_writings)},
-    {"bsmp_write_unsigned", call_write_unsigned, (void (*)(void))bsmp_write_unsigned, refusal_ended, false, CALLS(unsigned_writings)},
+    {"bsmp_packet", call_packet, (void (*)(void))bsmp_packet, outcome_ended, NO_SUMS, CALLS(packets)},
+    {"bsmp_packet with 42", call_packet, (void (*)(void))bsmp_packet, outcome_ended, SUMS, CALLS(renewals)},
+    {"bsmp_function_result", call_function_result, (void (*)(void))bsmp_function_result, outcome_ended, NO_SUMS, CALLS(results)},
+    {"bsmp_board_store", call_board_store, (void (*)(void))bsmp_board_store, refusal_ended, NO_SUMS, CALLS(stores)},
+    {"bsmp_fresh_board", call_fresh_board, (void (*)(void))bsmp_fresh_board, refusal_ended, SUMS, CALLS(fresh_boards)},
+    {"bsmp_fresh_board refused", call_fresh_board, (void (*)(void))bsmp_fresh_board, refusal_ended, NO_SUMS, CALLS(refused_fresh_boards)},
+    {"bsmp_md5", call_md5, (void (*)(void))bsmp_md5, sum_ended, SUMS, CALLS(messages)},
+    {"bsmp_read_signed", call_read_signed, (void (*)(void))bsmp_read_signed, refusal_ended, NO_SUMS, CALLS(signed_readings)},
+    {"bsmp_read_unsigned", call_read_unsigned, (void (*)(void))bsmp_read_unsigned, refusal_ended, NO_SUMS, CALLS(unsigned_readings)},
+    {"bsmp_write_signed", call_write_signed, (void (*)(void))bsmp_write_signed, refusal_ended, NO_SUMS, CALLS(signed_writings)},
+    {"bsmp_write_unsigned", call_write_unsigned, (void (*)(void))bsmp_write_unsigned, refusal_ended, NO_SUMS, CALLS(unsigned_writings)},
+#ifdef ASKING
+    {"bsmp_ask_packet", call_ask_packet, (void (*)(void))bsmp_ask_packet, asked_ended, ASKS, CALLS(asks)},
+    {"bsmp_hear_reply", call_hear_reply, (void (*)(void))bsmp_hear_reply, heard_ended, ASKS, CALLS(hearings)},
+    {"bsmp_hear_place", call_hear_place, (void (*)(void))bsmp_hear_place, refusal_ended, ASKS, CALLS(places)},
+    {"bsmp_hear_signed", call_hear_signed, (void (*)(void))bsmp_hear_signed, refusal_ended, ASKS, CALLS(signed_hearings)},
+    {"bsmp_hear_unsigned", call_hear_unsigned, (void (*)(void))bsmp_hear_unsigned, refusal_ended, ASKS, CALLS(unsigned_hearings)},
+    {"bsmp_ask_signed", call_ask_signed, (void (*)(void))bsmp_ask_signed, refusal_ended, ASKS, CALLS(signed_asks)},
+    {"bsmp_ask_unsigned", call_ask_unsigned, (void (*)(void))bsmp_ask_unsigned, refusal_ended, ASKS, CALLS(unsigned_asks)},
+#endif
 };
 
 static int failures;
@@ -463,22 +670,24 @@ static size_t worst_of(const struct kind *kind)
 
 int main(void)
 {
-    static const unsigned limits[] = {MOST_STACK, MOST_SUM_STACK}; /* of the two sorts of call: without sums, and with them */
+    static const unsigned limits[SORTS] = {MOST_STACK, MOST_SUM_STACK, MOST_ASKING_STACK};
+    static const char *const sorts[SORTS] = {"a call that works out no sums", "a call that works out sums", "an asking call"};
     size_t worst[sizeof kinds / sizeof kinds[0]];
-    unsigned most[] = {0, 0};
+    unsigned most[SORTS] = {0};
     for (size_t i = 0; i < sizeof kinds / sizeof kinds[0]; i++) worst[i] = worst_of(&kinds[i]);
     puts("Bytes of stack at most, beyond the arguments and the return address:");
     for (size_t i = 0; i < sizeof kinds / sizeof kinds[0]; i++) {
-        unsigned *of_its_sort = &most[kinds[i].sums];
+        unsigned *of_its_sort = &most[kinds[i].sort];
         printf("%5u  %s\n", (unsigned)worst[i], kinds[i].name);
         if (worst[i] > *of_its_sort) *of_its_sort = (unsigned)worst[i];
     }
-    for (int sort = 0; sort < 2; sort++) {
+    for (int sort = 0; sort < SORTS; sort++) {
         if (most[sort] <= limits[sort]) continue;
-        printf("FAILED: a call that works out %s needs %u bytes of stack; the limit is %u\n", sort ? "sums" : "no sums", most[sort],
-               limits[sort]);
+        printf("FAILED: %s needs %u bytes of stack; the limit is %u\n", sorts[sort], most[sort], limits[sort]);
         failures++;
     }
-    printf("%u bytes of stack in the worst case, %u where sums are worked out, %d failed\n", most[0], most[1], failures);
+    printf("%u bytes of stack in the worst case, %u where sums are worked out, ", most[NO_SUMS], most[SUMS]);
+    if (most[ASKS] > 0) printf("%u to ask, ", most[ASKS]);
+    printf("%d failed\n", failures);
     return failures != 0;
 }

@@ -1,4 +1,5 @@
-/* bsmp.h: the node of one board in the Basic Small Messages Protocol (BSMP) 2.20, for C11 and C++11.
+/* bsmp.h: the node of one board in the Basic Small Messages Protocol (BSMP) 2.20, for C11 and C++11. The other side of the line,
+ * which asks nodes and reads what they answer, is bsmp_ask.h.
  *
  * A packet and the board's state give one outcome and the next state; what comes of every input is stated once and proved.
  * The board keeps all memory and lends it to each call. The library allocates nothing and remembers nothing.
@@ -37,7 +38,7 @@
 /* The version of this header with its library; .ci/checks/version holds the Rust face's and the suite's to it. And the version of
  * the protocol, as the node answers it to command 00. */
 #define BSMP_VERSION_MAJOR 0
-#define BSMP_VERSION_MINOR 5
+#define BSMP_VERSION_MINOR 6
 #define BSMP_VERSION_PATCH 0
 #define BSMP_VERSION (10000 * BSMP_VERSION_MAJOR + 100 * BSMP_VERSION_MINOR + BSMP_VERSION_PATCH) /* for #if */
 #define BSMP_PROTOCOL_MAJOR 2
@@ -95,7 +96,8 @@ enum bsmp_kind {
 /* How a call ends. */
 enum bsmp_outcome_kind { BSMP_REPLY = 0, BSMP_SILENCE = 1, BSMP_RUN = 2, BSMP_REFUSED = 3 };
 
-/* Local refusals. Where several are due, the smallest number is given, except that 11 comes before 10. */
+/* Local refusals. Where several are due, the smallest number is given, except that 11 comes before 10. The last two are the asking
+ * side's; what 1 to 3 mean there, bsmp_ask.h says. */
 enum bsmp_refusal {
     BSMP_NOT_REFUSED = 0,
     BSMP_BOARD_UNUSABLE = 1,      /* a record, length or group, or the size of a store, of the lengths or sums breaks the limits */
@@ -109,7 +111,9 @@ enum bsmp_refusal {
     BSMP_NO_SUCH_VARIABLE = 9,    /* board store or reading */
     BSMP_WRONG_BYTE_COUNT = 10,   /* value or buffer is not the variable's size */
     BSMP_WRONG_KIND = 11,         /* plain, or signed asked of unsigned, or the reverse */
-    BSMP_DOES_NOT_FIT = 12        /* number outside the variable's range */
+    BSMP_DOES_NOT_FIT = 12,       /* number outside the variable's range */
+    BSMP_REPLY_UNFIT = 13,        /* reply doesn't fit the request */
+    BSMP_REQUEST_UNWRITABLE = 14  /* number over 255, block over 65,535 or payload over 4,099 bytes */
 };
 
 /* Wire codes that a master finds at place 1 of a reply in which there is nothing to read. */
@@ -201,7 +205,7 @@ struct bsmp_unsigned_reading {
     uint64_t number;
 };
 
-/* Refusal BSMP_NOT_REFUSED and where a variable's bytes stand in the store of values, or a refusal and 0. */
+/* Refusal BSMP_NOT_REFUSED and where a variable's bytes stand, in the store of values or in a reply, or a refusal and 0. */
 struct bsmp_place {
     uint8_t refusal;
     size_t offset;
@@ -549,6 +553,8 @@ static inline const char *bsmp_refusal_words(uint64_t refusal)
     case BSMP_WRONG_BYTE_COUNT: return "wrong byte count";
     case BSMP_WRONG_KIND: return "wrong kind";
     case BSMP_DOES_NOT_FIT: return "doesn't fit";
+    case BSMP_REPLY_UNFIT: return "reply doesn't fit the request";
+    case BSMP_REQUEST_UNWRITABLE: return "request can't be written";
     default: return "unknown refusal";
     }
 }
