@@ -5,6 +5,8 @@ pub mod boards;
 pub mod cases;
 #[cfg(not(target_arch = "wasm32"))]
 pub mod differ;
+#[cfg(not(target_arch = "wasm32"))]
+pub mod differ_asking;
 pub mod faults;
 #[cfg(not(target_arch = "wasm32"))]
 pub mod guard;
