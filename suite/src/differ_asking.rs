@@ -78,7 +78,8 @@ impl DifferAsking {
         self.digest.as_ref().map(|digest| digest.0)
     }
 
-    /// Goes on, board after board, until there were that many exchanges in all, or until something differs.
+    /// Goes on, board after board, until there were that many exchanges in all, or until something differs. The last board is learned to the
+    /// end, so there may be a few more.
     pub fn run(&mut self, exchanges: u64) -> Result<(), String> {
         while self.tally.exchanges < exchanges {
             let number = self.tally.exchanges + 1;

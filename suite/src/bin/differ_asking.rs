@@ -1,6 +1,6 @@
 //! differ_asking [--seed N] [--exchanges N] [--all] [--digest]: both asking sides on a line with both nodes, exchange after exchange, until
-//! that many agreed or one didn't. With --all it also fails if some request, refusal, kind of answer, error or way of learning never came
-//! up. With --digest its last line is a number for all that the proved side told, wrote and learned.
+//! that many or a few more agreed, or one didn't. With --all it also fails if some request, refusal, kind of answer, error or way of
+//! learning never came up. With --digest its last line is a number for all that the proved side told, wrote and learned.
 use std::process::exit;
 use suite::differ_asking::DifferAsking;
 
