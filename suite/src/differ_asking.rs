@@ -1,7 +1,7 @@
 //! Both asking sides on one line with both nodes, exchange after exchange: what they write, hear and learn is compared, also with what the
 //! board itself holds.
 mod asides;
-mod asked;
+pub(crate) mod asked;
 mod both;
 mod damage;
 mod digest;
@@ -15,8 +15,8 @@ mod places;
 mod proved_side;
 mod replies;
 mod said;
-mod second_side;
-mod tables;
+pub(crate) mod second_side;
+pub(crate) mod tables;
 mod tally;
 mod ways;
 mod wild;

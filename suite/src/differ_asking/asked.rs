@@ -4,19 +4,19 @@ use crate::second_asking::{Masking, Request};
 
 /// A request by 01's code and the numbers that it names, with its destination and the bytes that go with it.
 #[derive(Clone, Debug)]
-pub(super) struct Asked {
-    pub(super) destination: u8,
-    pub(super) code: u8,
-    pub(super) operation: u8,
-    pub(super) number: usize,
-    pub(super) other: usize,
-    pub(super) block: usize,
-    pub(super) bytes: Vec<u8>,
+pub(crate) struct Asked {
+    pub(crate) destination: u8,
+    pub(crate) code: u8,
+    pub(crate) operation: u8,
+    pub(crate) number: usize,
+    pub(crate) other: usize,
+    pub(crate) block: usize,
+    pub(crate) bytes: Vec<u8>,
 }
 
 impl Asked {
     /// The request of this code to that destination; it names 0 of everything.
-    pub(super) fn new(destination: u8, code: u8) -> Asked {
+    pub(crate) fn new(destination: u8, code: u8) -> Asked {
         Asked {
             destination,
             code,
@@ -29,7 +29,7 @@ impl Asked {
     }
 
     /// The request that a message stands for; its payload has at least its front.
-    pub(super) fn of(destination: u8, message: &[u8]) -> Asked {
+    pub(crate) fn of(destination: u8, message: &[u8]) -> Asked {
         let mut asked = Asked::new(destination, message[0]);
         let (front, bytes) = message[3..].split_at(front(message[0]));
         asked.bytes = bytes.to_vec();

@@ -54,7 +54,8 @@ impl DifferAsking {
         source: Source,
     ) -> Result<Hearing, String> {
         let told = self.proved.hear(&table.raw, asked, reply);
-        let (heard, known) = second_side::hear(&table.known, asked, reply);
+        let mut known = table.known.clone();
+        let heard = second_side::hear(&mut known, asked, reply);
         let raw = match &heard {
             Ok(heard) => tables::taught(table, heard, &known),
             Err(_) => table.raw,

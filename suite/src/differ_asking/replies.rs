@@ -111,6 +111,11 @@ fn ids(random: &mut Random, count: usize) -> Vec<u8> {
 }
 
 fn curves(random: &mut Random) -> Vec<u8> {
+    if random.once_in(8) {
+        // 65,536 bytes together, or one more.
+        let blocks = random.within(1, 2) as u8;
+        return vec![1, 0, 1, 0xFF, 0xFF, 0, 0, 1, 0, blocks];
+    }
     let count = random.choose(&[0, 1, 1, 2, 7, 8, 9]);
     let mut list = Vec::new();
     for _ in 0..count {

@@ -6,7 +6,7 @@ const REPLY_DOES_NOT_FIT: u8 = 13;
 const CANNOT_BE_WRITTEN: u8 = 14;
 
 /// The packet of a request.
-pub(super) fn ask(asked: &Asked, room: usize) -> Result<Vec<u8>, u8> {
+pub(crate) fn ask(asked: &Asked, room: usize) -> Result<Vec<u8>, u8> {
     match asked.request() {
         Some(request) => second_asking::ask(asked.destination, request, &asked.bytes, room),
         // After 2 and 3, which don't look at the request.
@@ -15,22 +15,21 @@ pub(super) fn ask(asked: &Asked, room: usize) -> Result<Vec<u8>, u8> {
     }
 }
 
-/// What a reply says, and the table after it.
-pub(super) fn hear(known: &Learned, asked: &Asked, reply: &[u8]) -> (Result<Heard, u8>, Learned) {
-    let mut after = known.clone();
-    let heard = match asked.request() {
-        Some(request) => {
-            let heard = second_asking::hear(known, asked.destination, request, reply);
-            if let Ok(heard) = &heard {
-                second_asking::learn(&mut after, request, &asked.bytes, heard);
-            }
-            heard
-        }
+/// What a reply says; the table is then as it leaves it.
+pub(crate) fn hear(known: &mut Learned, asked: &Asked, reply: &[u8]) -> Result<Heard, u8> {
+    let request = match asked.request() {
+        Some(request) => request,
         // After 2, 4 and 5, which don't look at the request; the version's answer doesn't look at the table.
-        None => second_asking::hear(known, asked.destination, Request::Version, reply)
-            .and(Err(REPLY_DOES_NOT_FIT)),
+        None => {
+            return second_asking::hear(known, asked.destination, Request::Version, reply)
+                .and(Err(REPLY_DOES_NOT_FIT))
+        }
     };
-    (heard, after)
+    let heard = second_asking::hear(known, asked.destination, request, reply);
+    if let Ok(heard) = &heard {
+        second_asking::learn(known, request, &asked.bytes, heard);
+    }
+    heard
 }
 
 /// Whether a table keeps 01's limits.

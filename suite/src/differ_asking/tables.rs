@@ -8,13 +8,13 @@ const MOST_TAKEN: u64 = 320;
 
 /// A table as the archive takes it, and as the second side does.
 #[derive(Clone, Debug)]
-pub(super) struct Table {
-    pub(super) raw: Learned,
-    pub(super) known: second_asking::Learned,
+pub(crate) struct Table {
+    pub(crate) raw: Learned,
+    pub(crate) known: second_asking::Learned,
 }
 
 impl Table {
-    pub(super) fn of(raw: Learned) -> Table {
+    pub(crate) fn of(raw: Learned) -> Table {
         Table {
             known: known(&raw),
             raw,
@@ -55,7 +55,7 @@ pub(super) fn known(raw: &Learned) -> second_asking::Learned {
 }
 
 /// The table that a board lends to its node, with nothing in the places that it doesn't use.
-pub(super) fn of_board(lent: &Lent, groups: &Groups) -> Learned {
+pub(crate) fn of_board(lent: &Lent, groups: &Groups) -> Learned {
     let mut raw = Learned::new();
     let variables = lent.variables.iter();
     put_variables(&mut raw, variables.map(|v| (v.writable == 1, v.size)));
@@ -95,8 +95,10 @@ fn put_variables(raw: &mut Learned, variables: impl Iterator<Item = (bool, u8)>)
     raw.writable = 0;
     for (place, (writable, size)) in variables.enumerate() {
         raw.variables += 1;
-        raw.writable |= u64::from(writable) << place;
-        raw.sizes[place] = size;
+        if let Some(known) = raw.sizes.get_mut(place) {
+            *known = size;
+            raw.writable |= u64::from(writable) << place;
+        }
     }
 }
 
@@ -111,11 +113,13 @@ fn put_curves(raw: &mut Learned, curves: impl Iterator<Item = (u32, u32, u32)>) 
     raw.curves = 0;
     for (place, (writable, block_size, blocks)) in curves.enumerate() {
         raw.curves += 1;
-        raw.shapes[place] = Curve {
-            writable,
-            block_size,
-            blocks,
-        };
+        if let Some(known) = raw.shapes.get_mut(place) {
+            *known = Curve {
+                writable,
+                block_size,
+                blocks,
+            };
+        }
     }
 }
 
@@ -123,6 +127,8 @@ fn put_functions(raw: &mut Learned, functions: impl Iterator<Item = (u8, u8)>) {
     raw.functions = 0;
     for (place, (input, output)) in functions.enumerate() {
         raw.functions += 1;
-        raw.calls[place] = Function { input, output };
+        if let Some(known) = raw.calls.get_mut(place) {
+            *known = Function { input, output };
+        }
     }
 }

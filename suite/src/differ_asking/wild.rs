@@ -82,6 +82,12 @@ fn limits(random: &mut Random) -> Learned {
     table.writable = random.choose(&[0, u64::MAX, 1 << 63]);
     table.sets = [u64::MAX, 1 << 63, 1, u64::MAX, 3];
     table.shapes = [Curve::writable(4096, 2); 8];
+    if random.once_in(2) {
+        // As many blocks too, or one more.
+        table.curves = 2;
+        table.shapes[0] = Curve::read_only(1, 65_535);
+        table.shapes[1] = Curve::writable(1, random.within(1, 2) as u32);
+    }
     table.sizes = [64; 64];
     for call in &mut table.calls {
         (call.input, call.output) = (15, 15);
