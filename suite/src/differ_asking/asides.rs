@@ -36,6 +36,11 @@ impl DifferAsking {
                 let table = Table::of(wild(&mut self.random, &line.table.raw));
                 self.nearly(&table, asked)
             }
+            (8, _) if self.random.once_in(2) => {
+                let reply = replies::noise(&mut self.random, asked);
+                self.hear(&line.table, asked, &reply, Source::Noise)
+                    .map(drop)
+            }
             _ => self.nearly(&line.table, asked),
         }
     }

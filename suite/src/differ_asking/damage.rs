@@ -67,7 +67,8 @@ pub(super) fn mend(packet: &mut [u8]) {
     }
 }
 
-fn mend_size(packet: &mut [u8]) {
+/// SIZE becomes the number of bytes between it and the last.
+pub(super) fn mend_size(packet: &mut [u8]) {
     if let Some(payload) = packet.len().checked_sub(5) {
         packet[2..4].copy_from_slice(&(payload as u16).to_be_bytes());
     }

@@ -5,12 +5,13 @@ use super::ways::WAYS;
 use crate::packets::COMMANDS;
 
 /// Replies by where they come from.
-const SOURCES: [&str; 5] = [
+const SOURCES: [&str; 6] = [
     "from the nodes",
     "damaged",
     "to another request",
     "drawn to fit nearly",
     "with another table",
+    "of random bytes",
 ];
 
 /// What is heard, by the archive's numbers from 1 on.

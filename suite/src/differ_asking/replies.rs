@@ -1,8 +1,10 @@
 //! Replies that nearly fit a request, and some that do: drawn for what the asking side knows.
 use super::asked::Asked;
+use super::damage::{mend, mend_size};
 use crate::packets::{message, packet};
 use crate::random::Random;
 use crate::second_asking::Learned;
+use cruachvel::MOST_PACKET;
 
 /// A reply to the master, mostly with the code of the request's answer.
 pub(super) fn nearly(random: &mut Random, known: &Learned, asked: &Asked) -> Vec<u8> {
@@ -19,6 +21,27 @@ pub(super) fn nearly(random: &mut Random, known: &Learned, asked: &Asked) -> Vec
         0
     };
     packet(destination, &message(code, &payload))
+}
+
+/// Random bytes of any length, mostly to the master and with the right sum; some of them with the right SIZE.
+pub(super) fn noise(random: &mut Random, asked: &Asked) -> Vec<u8> {
+    let around = random.within(MOST_PACKET - 1, MOST_PACKET + 2);
+    let short = random.below(24);
+    let length = random.choose(&[0, 1, 2, 3, 4, 5, 6, short, short, short, around]);
+    let mut reply = random.bytes(length);
+    if let (Some(first), false) = (reply.first_mut(), random.once_in(8)) {
+        *first = 0;
+    }
+    if let (Some(second), true) = (reply.get_mut(1), random.once_in(2)) {
+        *second = code(random, asked.code);
+    }
+    if random.once_in(2) {
+        mend_size(&mut reply);
+    }
+    if !random.once_in(4) {
+        mend(&mut reply);
+    }
+    reply
 }
 
 // The code of 01's answer, often; one beside it; another answer's; an error's, or what is none.

@@ -20,6 +20,8 @@ pub(super) enum Source {
     Nearly,
     /// The nodes, to this request, but it is heard with another table.
     Wild,
+    /// Random bytes.
+    Noise,
 }
 
 /// How often each refusal was given, by its number, and at 0 how often there was none.
@@ -44,7 +46,7 @@ pub struct Tally {
     pub(super) errors: [u64; 256],
     pub(super) unheard: Refusals,
     /// How many replies of each source didn't fit, and how many did.
-    pub(super) sources: [[u64; 2]; 5],
+    pub(super) sources: [[u64; 2]; 6],
     /// How many replies to multicast requests would have fit otherwise, and were not heard.
     pub(super) multicast: u64,
     /// How often each way of learning was met, and how often a node was learned from nothing.
@@ -67,7 +69,7 @@ impl Tally {
             kinds: [0; 14],
             errors: [0; 256],
             unheard: [0; 15],
-            sources: [[0; 2]; 5],
+            sources: [[0; 2]; 6],
             multicast: 0,
             ways: [0; WAYS.len()],
             nodes: 0,
