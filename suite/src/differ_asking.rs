@@ -82,9 +82,9 @@ impl DifferAsking {
     /// end, so there may be a few more.
     pub fn run(&mut self, exchanges: u64) -> Result<(), String> {
         while self.tally.exchanges < exchanges {
-            let number = self.tally.exchanges + 1;
             self.board(exchanges).map_err(|what| {
-                format!("seed {}, exchange {} or on: {}", self.seed, number, what)
+                let agreed = self.tally.exchanges;
+                format!("seed {}, after {} exchanges: {}", self.seed, agreed, what)
             })?;
         }
         Ok(())

@@ -73,10 +73,14 @@ impl DifferAsking {
             }
             1 => other = draw(&mut self.random, &line.nodes.proved, line.nodes.groups()).asked,
             2 => {
-                other.number = self.random.choose(&[other.number ^ 1, other.number + 256]);
+                let wrapped = other.number.wrapping_add(256);
+                other.number = self.random.choose(&[other.number ^ 1, wrapped]);
                 other.other ^= 1;
             }
-            _ => other.block = self.random.choose(&[other.block ^ 1, other.block + 65_536]),
+            _ => {
+                let wrapped = other.block.wrapping_add(65_536);
+                other.block = self.random.choose(&[other.block ^ 1, wrapped]);
+            }
         }
         self.hear(&line.table, &other, reply, Source::Other)
             .map(drop)

@@ -33,12 +33,8 @@ fn another(random: &mut Random) -> Learned {
 }
 
 fn count(random: &mut Random, right: u64) -> u64 {
-    let near = random.choose(&[
-        right.wrapping_sub(1),
-        right + 1,
-        right + 256,
-        right + (1 << 32),
-    ]);
+    let step = random.choose(&[u64::MAX, 1, 256, 1 << 32]);
+    let near = right.wrapping_add(step);
     let limit = random.choose(&[0, 1, 5, 6, 8, 9, 16, 17, 63, 64, 65, 1000]);
     let any = random.number() >> random.below(64);
     random.choose(&[near, limit, limit, any, u64::MAX])
