@@ -1,6 +1,6 @@
 //! Both nodes on one board, call after call: everything that a call leaves is compared.
-mod calls;
-mod digest;
+pub(crate) mod calls;
+pub(crate) mod digest;
 mod lengths;
 mod proved_side;
 mod second_side;
@@ -41,7 +41,7 @@ pub enum Ending {
 
 impl Ending {
     // A packet's input is told by its place, so the packet is needed to see it.
-    fn of(outcome: Outcome, request: &[u8]) -> Ending {
+    pub(crate) fn of(outcome: Outcome, request: &[u8]) -> Ending {
         match outcome {
             Outcome::Reply(reply) => Ending::Reply(reply.len()),
             Outcome::Silence => Ending::Silence,
@@ -59,7 +59,7 @@ impl Ending {
         }
     }
 
-    fn of_second(outcome: second::Outcome) -> Ending {
+    pub(crate) fn of_second(outcome: second::Outcome) -> Ending {
         match outcome {
             second::Outcome::Reply(length) => Ending::Reply(length),
             second::Outcome::Silent => Ending::Silence,

@@ -5,11 +5,15 @@ pub mod boards;
 pub mod cases;
 #[cfg(not(target_arch = "wasm32"))]
 pub mod differ;
+#[cfg(not(target_arch = "wasm32"))]
+pub mod differ_asking;
 pub mod faults;
 #[cfg(not(target_arch = "wasm32"))]
 pub mod guard;
 pub mod lent;
 pub mod measured;
+#[cfg(not(target_arch = "wasm32"))]
+pub mod measured_asking;
 pub mod packets;
 pub mod random;
 pub mod records;
@@ -18,4 +22,6 @@ pub mod run;
 pub mod second;
 pub mod second_asking;
 pub mod second_lent;
+#[cfg(not(target_arch = "wasm32"))]
+pub mod timed;
 pub mod whatif;

@@ -164,7 +164,7 @@ fn with_curve(curve: Curve) -> Lent {
 }
 
 // As many records of each sort as a board may have, and as many bytes of curves.
-fn full_board() -> Lent {
+pub(crate) fn full_board() -> Lent {
     let lent = Lent {
         variables: vec![Variable::writable(4, Kind::UnsignedBig); 64],
         curves: Curve::numbers(&[Curve::writable(4096, 2); 8]).to_vec(),

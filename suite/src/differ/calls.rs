@@ -107,7 +107,7 @@ fn draw_noise(random: &mut Random, second: &SecondLent) -> Call {
 }
 
 // One of `count` things, or none of them.
-fn some_number(random: &mut Random, count: usize) -> usize {
+pub(crate) fn some_number(random: &mut Random, count: usize) -> usize {
     if random.once_in(16) {
         return random.choose(&[count, count + 1, 256, 1 << 32, usize::MAX]);
     }
@@ -115,7 +115,7 @@ fn some_number(random: &mut Random, count: usize) -> usize {
 }
 
 // A length that is right, or not.
-fn some_length(random: &mut Random, right: usize) -> usize {
+pub(crate) fn some_length(random: &mut Random, right: usize) -> usize {
     if random.once_in(8) {
         return random.choose(&[0, right.saturating_sub(1), right + 1, 2 * right, 300]);
     }
@@ -183,7 +183,7 @@ fn draw_number(random: &mut Random, second: &SecondLent) -> Call {
 }
 
 // Numbers around the edges of what n bytes hold, of either sign, and others.
-fn some_value(random: &mut Random, size: u8) -> u64 {
+pub(crate) fn some_value(random: &mut Random, size: u8) -> u64 {
     let bits = u32::from(size).min(8) * 8;
     let whole = 1u64.checked_shl(bits).unwrap_or(0);
     let half = whole / 2;

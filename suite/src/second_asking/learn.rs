@@ -42,7 +42,7 @@ fn shown(learned: &mut Learned, group: usize, ids: &[u8]) {
 }
 
 fn made(learned: &mut Learned, ids: &[u8]) {
-    if ids.is_empty() || learned.groups.len() >= MADE_MOST {
+    if learned.groups.len() >= MADE_MOST {
         return;
     }
     if let Some(set) = learned.set_of(ids) {

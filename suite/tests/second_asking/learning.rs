@@ -102,6 +102,8 @@ fn members_that_are_no_known_variables_teach_nothing() {
     assert_eq!(shown(&one, 3, &[3]), [0b001]);
     assert_eq!(shown(&one, 3, &[0, 1, 63]), [0b001]);
     assert_eq!(shown(&one, 4, &[1, 3]), [0b001]);
+    assert_eq!(shown(&one, 3, &[]), [0b001]);
+    assert_eq!(shown(&one, 4, &[]), [0b001]);
     assert_eq!(shown(&Learned::default(), 3, &[0]), []);
 }
 
@@ -114,13 +116,15 @@ fn the_last_of_64_variables_has_its_bit() {
 }
 
 #[test]
-fn ids_that_no_set_has_a_bit_for_teach_nothing() {
-    let variables = vec![(true, 1); 300];
-    let learned = Learned { variables, ..a() };
-    assert_eq!(made(&learned, &[63]), [1 << 63]);
-    assert_eq!(made(&learned, &[0, 64]), []);
-    assert_eq!(made(&learned, &[255]), []);
-    assert_eq!(shown(&learned, 3, &[64]), []);
+fn where_more_than_64_variables_are_known_no_group_is_learned() {
+    for count in [65, 300] {
+        let variables = vec![(true, 1); count];
+        let learned = Learned { variables, ..a() };
+        for ids in [&[0][..], &[63], &[0, 63], &[64], &[0, 64], &[255]] {
+            assert_eq!(made(&learned, ids), []);
+            assert_eq!(shown(&learned, 3, ids), []);
+        }
+    }
 }
 
 #[test]
