@@ -302,10 +302,8 @@ impl Run<'_> {
             if members.len() != words.len() {
                 let (has, given) = (counted(members.len(), "member"), words.len());
                 let message = format!(
-                    "group {} has {}, and {} are given",
-                    group,
-                    has,
-                    counted(given, "value")
+                    "group {} has {}, and takes as many values, not {}",
+                    group, has, given
                 );
                 return Err(Failure::Misused(message));
             }
