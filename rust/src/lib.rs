@@ -1,9 +1,11 @@
-//! A BSMP 2.20 node for small boards: the safe Rust face of a library whose meaning is proved.
+//! A BSMP 2.20 node for small boards, and the side that asks it: the safe Rust face of a library whose meaning is proved.
 //!
 //! One packet and a board's state give one [`Outcome`] and the next state. [`Node`] owns a board and is the easy way;
 //! the nine entries ([`packet`], [`function_result`], [`board_store`], [`fresh_board`], [`read_signed`],
 //! [`read_unsigned`], [`write_signed`], [`write_unsigned`], [`md5`]) work on lent slices and allocate nothing. Every input
 //! is taken: what doesn't fit ends in a [`Refusal`] that changes nothing.
+//!
+//! The other side is [`Gateway`]: it writes requests from their meaning, reads the replies and learns a node from its lists.
 //!
 //! ```
 //! use cruachvel::{packet, Address, Groups, Kind, Outcome, Table, Variable, REPLY_ROOM};
@@ -28,6 +30,7 @@
 
 mod board;
 mod entries;
+mod gateway;
 mod learned;
 mod node;
 mod outcome;
@@ -35,17 +38,22 @@ pub mod raw;
 pub mod wire;
 
 pub use board::{
-    Address, Board, Curve, Function, FunctionNumber, Groups, Kind, Table, Variable, VariableNumber,
-    MOST_BLOCKS, MOST_CURVES, MOST_CURVE_BYTES, MOST_PACKET, MOST_VALUE_BYTES, MOST_VARIABLES,
-    REPLY_ROOM, SUM_SIZE,
+    Address, Board, Curve, CurveNumber, Function, FunctionNumber, GroupNumber, Groups, Kind, Table,
+    Variable, VariableNumber, MOST_BLOCKS, MOST_CURVES, MOST_CURVE_BYTES, MOST_PACKET,
+    MOST_VALUE_BYTES, MOST_VARIABLES, REPLY_ROOM, SUM_SIZE,
 };
 pub use entries::{
     board_store, fresh_board, function_result, md5, packet, read_signed, read_unsigned,
     write_signed, write_unsigned,
 };
+pub use gateway::{
+    Answer, Gateway, ListedGroup, ListedVariable, Lists, Masking, Number, Record, Records, Request,
+    Values,
+};
 pub use learned::Learned;
 pub use node::{Node, State};
 pub use outcome::{Outcome, Ran, Refusal};
+pub use wire::WireError;
 
 /// The archive that this build is linked with.
 pub const ARCHIVE: &str = env!("CRUACHVEL_ARCHIVE");

@@ -3,17 +3,17 @@ use crate::raw::Told;
 use crate::FunctionNumber;
 use std::fmt;
 
-/// A local refusal. It changes no byte of any store, group table or buffer. Smallest number first, except that 11 comes
-/// before 10.
+/// A local refusal. It changes no byte of any store, group table or buffer, nor of a learned table. Smallest number first,
+/// except that 11 comes before 10.
 #[derive(Clone, Copy, Debug, PartialEq, Eq, Hash)]
 #[repr(u8)]
 pub enum Refusal {
     /// A record, store length or group breaks the table of 01, or lengths and sums are not one for each block and each
-    /// curve, or a length is not 1 to its block size.
+    /// curve, or a length is not 1 to its block size. On the asking side: what was learned breaks it.
     BoardUnusable = 1,
-    /// Own address or multicast byte breaks it.
+    /// Own address or multicast byte breaks it. On the asking side: the destination is not 1 to 31 or 248 to 255.
     BadAddress = 2,
-    /// The reply buffer is under 4,104 bytes.
+    /// The reply buffer is under 4,104 bytes. On the asking side: the buffer for the request is.
     ReplyBufferShort = 3,
     /// The packet is under 2 or over 4,104 bytes.
     PacketLength = 4,
@@ -33,11 +33,15 @@ pub enum Refusal {
     WrongKind = 11,
     /// The number is outside the variable's range.
     DoesNotFit = 12,
+    /// The asking side: the reply doesn't fit the request.
+    ReplyUnfit = 13,
+    /// The asking side: a number is over 255, a block over 65,535 or the payload over 4,099 bytes.
+    RequestUnwritable = 14,
 }
 
 impl Refusal {
     /// All refusals, in the order of their numbers.
-    pub const ALL: [Refusal; 12] = [
+    pub const ALL: [Refusal; 14] = [
         Refusal::BoardUnusable,
         Refusal::BadAddress,
         Refusal::ReplyBufferShort,
@@ -50,9 +54,11 @@ impl Refusal {
         Refusal::WrongByteCount,
         Refusal::WrongKind,
         Refusal::DoesNotFit,
+        Refusal::ReplyUnfit,
+        Refusal::RequestUnwritable,
     ];
 
-    /// 01's number.
+    /// 01's number; 02's for the last two.
     pub const fn number(self) -> u8 {
         self as u8
     }
@@ -63,7 +69,7 @@ impl Refusal {
         Refusal::ALL.get(place).copied()
     }
 
-    /// 01's words.
+    /// 01's words; 02's for the last two.
     pub const fn words(self) -> &'static str {
         match self {
             Refusal::BoardUnusable => "board unusable",
@@ -78,10 +84,12 @@ impl Refusal {
             Refusal::WrongByteCount => "wrong byte count",
             Refusal::WrongKind => "wrong kind",
             Refusal::DoesNotFit => "doesn't fit",
+            Refusal::ReplyUnfit => "reply doesn't fit the request",
+            Refusal::RequestUnwritable => "request can't be written",
         }
     }
 
-    // The archive is proved to tell 1 to 12; any other number means that something else was linked in its place.
+    // The archive is proved to tell 1 to 14; any other number means that something else was linked in its place.
     fn told(number: u64) -> Refusal {
         u8::try_from(number)
             .ok()

@@ -285,39 +285,9 @@ extern "C" {
     pub fn bsmp_md5(message: *const u8, message_length: usize) -> ToldSum;
 }
 
-#[cfg(test)]
-mod tests {
-    use super::*;
-
-    // Offsets within a struct, which rustc 1.63 can't tell at compile time.
-    #[test]
-    fn fields_stand_where_the_archive_puts_them() {
-        let told = Told {
-            kind: 0,
-            refusal: 0,
-            due: false,
-            function: 0,
-            input: 0,
-            length: 0,
-        };
-        let start = &told as *const Told as usize;
-        let places = [
-            &told.kind as *const u8 as usize,
-            &told.refusal as *const u8 as usize,
-            &told.due as *const bool as usize,
-            &told.function as *const usize as usize,
-            &told.input as *const usize as usize,
-            &told.length as *const usize as usize,
-        ];
-        let word = size_of::<usize>();
-        let right = [0, 1, 2, word, 2 * word, 3 * word];
-        assert_eq!(places.map(|place| place - start), right);
-    }
-}
-
 // The asking side: the archive libbsmp_ask.a.
 extern "C" {
-    /// A request written, in numbers. `code` is 01's of the request; `number` the variable, group, curve or function that it names; `other` the
+    /// [`crate::Gateway::ask`] in numbers. `code` is 01's of the request; `number` the variable, group, curve or function that it names; `other` the
     /// variable that 28 reads; `block` that of 40 and 41; `operation` that of 24 and 26. What a request has no use for counts for nothing.
     pub fn bsmp_ask_packet(
         destination: u8,
@@ -332,7 +302,7 @@ extern "C" {
         room: usize,
     ) -> ToldAsked;
 
-    /// A reply to such a request, heard and learned from.
+    /// [`crate::Gateway::hear`] in numbers: a reply to such a request, heard and learned from.
     pub fn bsmp_hear_reply(
         learned: *mut Learned,
         destination: u8,
@@ -347,7 +317,7 @@ extern "C" {
         reply_length: usize,
     ) -> ToldHeard;
 
-    /// Where a member's bytes stand in the reply to a read of its group.
+    /// [`crate::Gateway::place`] in numbers.
     pub fn bsmp_hear_place(learned: *const Learned, group: usize, variable: usize) -> ToldPlace;
 
     /// A value's bytes as a number, by the kinds that the gateway supplies, one for each variable.
@@ -391,4 +361,82 @@ extern "C" {
         buffer: *mut u8,
         room: usize,
     ) -> u8;
+}
+
+#[cfg(test)]
+mod tests {
+    use super::*;
+
+    // Offsets within a struct, which rustc 1.63 can't tell at compile time.
+    #[test]
+    fn fields_stand_where_the_archive_puts_them() {
+        let told = Told {
+            kind: 0,
+            refusal: 0,
+            due: false,
+            function: 0,
+            input: 0,
+            length: 0,
+        };
+        let start = &told as *const Told as usize;
+        let places = [
+            &told.kind as *const u8 as usize,
+            &told.refusal as *const u8 as usize,
+            &told.due as *const bool as usize,
+            &told.function as *const usize as usize,
+            &told.input as *const usize as usize,
+            &told.length as *const usize as usize,
+        ];
+        let word = size_of::<usize>();
+        let right = [0, 1, 2, word, 2 * word, 3 * word];
+        assert_eq!(places.map(|place| place - start), right);
+    }
+
+    #[test]
+    fn fields_of_the_asking_side_stand_where_the_archive_puts_them() {
+        let word = size_of::<usize>();
+        let asked = ToldAsked {
+            refusal: 0,
+            length: 0,
+        };
+        let start = &asked as *const ToldAsked as usize;
+        let places = [
+            &asked.refusal as *const u8 as usize,
+            &asked.length as *const usize as usize,
+        ];
+        assert_eq!(places.map(|place| place - start), [0, word]);
+        let heard = ToldHeard {
+            kind: 0,
+            refusal: 0,
+            error: 0,
+            place: 0,
+            length: 0,
+        };
+        let start = &heard as *const ToldHeard as usize;
+        let places = [
+            &heard.kind as *const u8 as usize,
+            &heard.refusal as *const u8 as usize,
+            &heard.error as *const u8 as usize,
+            &heard.place as *const usize as usize,
+            &heard.length as *const usize as usize,
+        ];
+        assert_eq!(places.map(|place| place - start), [0, 1, 2, word, 2 * word]);
+        let learned = Learned::new();
+        let start = &learned as *const Learned as usize;
+        let places = [
+            &learned.variables as *const u64 as usize,
+            &learned.writable as *const u64 as usize,
+            &learned.groups as *const u64 as usize,
+            &learned.curves as *const u64 as usize,
+            &learned.functions as *const u64 as usize,
+            learned.sets.as_ptr() as usize,
+            learned.shapes.as_ptr() as usize,
+            learned.sizes.as_ptr() as usize,
+            learned.calls.as_ptr() as usize,
+        ];
+        assert_eq!(
+            places.map(|place| place - start),
+            [0, 8, 16, 24, 32, 40, 80, 176, 240]
+        );
+    }
 }

@@ -1,4 +1,4 @@
-//! Wire codes: what stands at place 1 of a reply in which there is nothing to read.
+//! Wire codes: what stands at place 1 of a reply in which there is nothing to read; the errors among them as a type.
 //!
 //! ```
 //! use cruachvel::{wire, Address, Board, Kind, Node, Outcome, Variable, REPLY_ROOM};
@@ -15,6 +15,8 @@
 //!     other => panic!("no reply: {:?}", other),
 //! }
 //! ```
+
+use std::fmt;
 
 /// Carried out.
 pub const OK: u8 = 0xE0;
@@ -34,3 +36,76 @@ pub const READ_ONLY: u8 = 0xE6;
 pub const FULL: u8 = 0xE7;
 /// A variable to be read or written is busy.
 pub const BUSY: u8 = 0xE8;
+
+/// An error that a node answers, E1 to E8.
+#[derive(Clone, Copy, Debug, PartialEq, Eq, Hash)]
+#[repr(u8)]
+pub enum WireError {
+    /// The message is under 3 bytes, or SIZE is not the number of bytes that follow.
+    Malformed = MALFORMED,
+    /// There is no such command, or no such operation.
+    Unsupported = UNSUPPORTED,
+    /// There is no such variable, group, curve or function.
+    BadId = BAD_ID,
+    /// There is no such block, or the IDs of a new group are not strictly ascending.
+    BadValue = BAD_VALUE,
+    /// The payload is of a wrong size.
+    BadSize = BAD_SIZE,
+    /// The thing to be written is read-only.
+    ReadOnly = READ_ONLY,
+    /// Five groups are made already.
+    Full = FULL,
+    /// A variable to be read or written is busy.
+    Busy = BUSY,
+}
+
+impl WireError {
+    /// All errors, in the order of their codes.
+    pub const ALL: [WireError; 8] = [
+        WireError::Malformed,
+        WireError::Unsupported,
+        WireError::BadId,
+        WireError::BadValue,
+        WireError::BadSize,
+        WireError::ReadOnly,
+        WireError::Full,
+        WireError::Busy,
+    ];
+
+    /// The code on the wire.
+    pub const fn code(self) -> u8 {
+        self as u8
+    }
+
+    /// The error that has this code.
+    pub fn of(code: u8) -> Option<WireError> {
+        let place = usize::from(code).checked_sub(usize::from(MALFORMED))?;
+        WireError::ALL.get(place).copied()
+    }
+
+    /// What 01 gives it for, in its words where they are few.
+    pub const fn words(self) -> &'static str {
+        match self {
+            WireError::Malformed => {
+                "message under 3 bytes, or SIZE not the number of bytes that follow"
+            }
+            WireError::Unsupported => "no such command, or no such operation",
+            WireError::BadId => "a variable, group, curve or function is named that doesn't exist",
+            WireError::BadValue => {
+                "block number not below the count, or IDs of a new group not strictly ascending"
+            }
+            WireError::BadSize => "payload not of the declared size",
+            WireError::ReadOnly => "the thing to be written is read-only",
+            WireError::Full => "five groups made already",
+            WireError::Busy => "a variable to be read or written is busy",
+        }
+    }
+}
+
+impl fmt::Display for WireError {
+    fn fmt(&self, f: &mut fmt::Formatter) -> fmt::Result {
+        f.write_str(self.words())
+    }
+}
+
+impl std::error::Error for WireError {}

@@ -59,7 +59,7 @@ fn sum_read(node: &mut Node) -> Vec<u8> {
 }
 
 #[test]
-fn refusals_have_the_numbers_and_words_of_01() {
+fn refusals_have_the_numbers_and_words_of_01_and_02() {
     let words = [
         "board unusable",
         "bad address",
@@ -73,16 +73,18 @@ fn refusals_have_the_numbers_and_words_of_01() {
         "wrong byte count",
         "wrong kind",
         "doesn't fit",
+        "reply doesn't fit the request",
+        "request can't be written",
     ];
     for (number, words) in (1..).zip(words) {
-        let refusal = Refusal::of(number).expect("1 to 12");
+        let refusal = Refusal::of(number).expect("1 to 14");
         assert_eq!(
             (refusal.number(), refusal.to_string().as_str()),
             (number, words)
         );
     }
     assert_eq!(
-        (Refusal::of(0), Refusal::of(13), Refusal::of(255)),
+        (Refusal::of(0), Refusal::of(15), Refusal::of(255)),
         (None, None, None)
     );
 }

@@ -3,6 +3,7 @@
 #   install_missing PACKAGES;   with_lists COMMAND   for packages that one script alone needs
 #   x86_cc ARGS          the C compiler;   x86_run PROGRAM ARGS   runs what it made
 #   x86_cargo ARGS       cargo, offline, for x86-64; its programs run through x86_run
+#   need_archives WHO    proves and builds the library's archives where they are missing or older than a source
 # On x86-64 itself these are gcc, the program and cargo. Elsewhere they are Debian's cross compilers, and the toolchain's emulator and C library.
 x86_here=$(cd "$(dirname "$(readlink -f "${BASH_SOURCE[0]}")")" && pwd)
 x86_top=$(cd "$x86_here/../.." && pwd)
@@ -47,3 +48,15 @@ with_lists() { # COMMAND; where the lists of packages are old, once more with ne
 }
 
 apt_install() { DEBIAN_FRONTEND=noninteractive apt-get install -y -qq --no-install-recommends "$@" >/dev/null; }
+
+# Archives in a folder that the environment names are taken as they are. The Rust face is linked with both.
+need_archives() { # WHO says so
+    local name archive
+    for name in bsmp_c bsmp_ask; do
+        archive=$RATTLE_LIB/lib$name.a
+        if [ "$RATTLE_LIB" = "$x86_top/target/staticlib" ] && { [ ! -f "$archive" ] || [ -n "$(find "$x86_top/crates" "$x86_top/crates.txt" -newer "$archive" -type f -print -quit)" ]; }; then
+            { need_packages && "$x86_top/tools/prove" "$1" staticlib "$name" >/dev/null && touch "$archive"; } </dev/null || return 1
+        fi
+        [ -f "$archive" ] || { echo "$1: $archive is not there" >&2; return 1; }
+    done
+}

@@ -8,7 +8,7 @@ use super::things::{function, is_signed, kind_name, missing, Setting};
 use crate::lent::members;
 use cruachvel::{Kind, Refusal, Variable};
 
-/// The condition of a refusal in 01's words.
+/// The condition of a refusal in 01's words. The last two are the asking side's alone, and no call meets them.
 pub fn condition(refusal: Refusal) -> &'static str {
     match refusal {
         Refusal::BoardUnusable => "a record, store length or group breaks the table above",
@@ -23,6 +23,10 @@ pub fn condition(refusal: Refusal) -> &'static str {
         Refusal::WrongByteCount => "value or buffer is not the variable's size",
         Refusal::WrongKind => "plain, or signed asked of unsigned, or the reverse",
         Refusal::DoesNotFit => "number outside the variable's range",
+        Refusal::ReplyUnfit => "the asking side's: the reply doesn't fit the request",
+        Refusal::RequestUnwritable => {
+            "the asking side's: ID over 255, block over 65,535 or payload over 4,099 bytes"
+        }
     }
 }
 

@@ -116,7 +116,8 @@ pub fn quotes() -> Vec<String> {
             .into_iter()
             .chain(amended.map(str::to_string))
     });
-    let conditions = Refusal::ALL.iter().map(|refusal| {
+    // 1 to 12; the others are the asking side's.
+    let conditions = Refusal::ALL[..12].iter().map(|refusal| {
         let (number, condition) = (refusal.number(), refusals::condition(*refusal));
         format!("| {} | {} | {} |", number, refusal, condition)
     });
