@@ -53,8 +53,14 @@ fn member_place(
     PlainPlace {
         refusal: 0,
         place: 4 + before,
-        length: sizes[variable] as usize,
+        length: wide(sizes[variable]),
     }
+}
+
+fn wide(size: u8) -> usize
+    ensures { λ r. ⌜ r ≡ size ⌝ }
+{
+    size as usize
 }
 
 fn no_place(refusal: Refusal) -> PlainPlace
