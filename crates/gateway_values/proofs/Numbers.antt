@@ -122,6 +122,7 @@ module _ (k : Known) (ss gs cs fs ks : List ℕ) (m : ℕ) (column : List ℕ) (
         → r ≡ readingOf (recordsFor (tableOf k ss gs cs fs) ks) i signed bs
     reading-told bs r e = e ∙ alike (λ vs. readingOf vs i signed bs) (reading-blind i signed bs)
 
-    pub writing-told : (z : ℤ) (buffer : List ℕ) (r : PlainBytesLeft) → r ≡ writingOf (recordsOf (recordsBy m (replicate 64 0) ss column)) i signed z buffer
+    -- z′ is the number as the machine has it
+    pub writing-told : (z z′ : ℤ) (buffer : List ℕ) (r : PlainBytesLeft) → r ≡ writingOf (recordsOf (recordsBy m (replicate 64 0) ss column)) i signed z′ buffer → z′ ≡ z
         → r ≡ writingOf (recordsFor (tableOf k ss gs cs fs) ks) i signed z buffer
-    writing-told z buffer r e = e ∙ alike (λ vs. writingOf vs i signed z buffer) (writing-blind i signed z buffer)
+    writing-told z z′ buffer r e h = e ∙ alike (λ vs. writingOf vs i signed z′ buffer) (writing-blind i signed z′ buffer) ∙ ap (λ y. writingOf wanted i signed y buffer) h

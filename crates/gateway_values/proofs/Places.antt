@@ -1,5 +1,5 @@
 -- Where a member's bytes stand: its group's set, the members before it, and the tests before that. Assumes nothing.
-use mathlib.Core.Path.{_≡_, refl, sym, ap, _∙_}
+use mathlib.Core.Path.{_≡_, refl, sym, ap, ap₂, _∙_}
 use mathlib.Core.Bool.{Bool, true, false, cond, not}
 use mathlib.Core.List.{List, [], _∷_, map}
 use Prim.Native.Nat.{ℕ, zero, suc, _+_, _-_, _%_, _^_, _≤_, _<_}
@@ -109,12 +109,12 @@ module _ (ss : List ℕ) (w : ℕ) (gs : List ℕ) (g : GroupNumber) (i : Variab
           ∙ before set (i .0) (length ss) (omega arith)
           ∙ sym (below-declared set (i .0) (length ss) (omega arith)) ∙ ap (λ m. membersBelow m (length ss)) (sym q)
 
-      pub member-told : not b ≡ false → (d n : ℕ) → d ≡ set % 2 ^ i .0 → n ≡ setBytes d ss
-          → Tells (record { refusal = 0; place = 4 + n; length = getD ss (i .0) 0 })
+      pub member-told : not b ≡ false → (d n y : ℕ) → d ≡ set % 2 ^ i .0 → n ≡ setBytes d ss → y ≡ getD ss (i .0) 0
+          → Tells (record { refusal = 0; place = 4 + n; length = y })
       unfolding memberPlace first setBytes
-      member-told o d n q z =
+      member-told o d n y q z v =
           rw (lt-ltb (i .0) (length ss) h, lt-ltb (g .0) (3 + length gs) k, member-is, o)
-          (ap (λ m. told 0 (4 + m) (getD ss (i .0) 0)) (z ∙ ap (λ is. sum (map (sizeOf (x .layout)) is)) (sym (members-before d q))))
+          (ap₂ (λ m y. told 0 (4 + m) y) (z ∙ ap (λ is. sum (map (sizeOf (x .layout)) is)) (sym (members-before d q))) v)
 
 -- the table as the gateway keeps it: it is unusable, or has no more than its places and is lent by their fronts
 module _ (k : Known) (ss gs cs fs : List ℕ) (u : Bool) (e : u ≡ usableLearned (tableOf k ss gs cs fs)) (g i : ℕ) where

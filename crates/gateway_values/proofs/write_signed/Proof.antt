@@ -1,5 +1,6 @@
 -- `write_signed` meets its contract. Assumes nothing.
 use borrow.Author.Needs.{needs}
+use mir.Facts.{toZ-ofZ}
 use Rattle.gateway_values.proofs.Numbers.{writing-told}
 use Rattle.gateway_values.proofs.write_signed.Statement.{statement}
 use Rattle.gateway_values.proofs.write_signed.Tie as tie
@@ -11,4 +12,4 @@ write-signed-spec =
     (λ c κs. search needs)
     (λ c κs. search needs)
     (λ c. search needs)
-    (λ c. search (writing-told, needs)))
+    (λ c. search (writing-told, toZ-ofZ, needs)))
