@@ -1,5 +1,5 @@
 -- Records alike but for their types, which are types all the same, are read and written alike. Assumes nothing.
-use mathlib.Core.Path.{_≡_, refl, sym, ap, ap₂, _∙_}
+use mathlib.Core.Path.{_≡_, refl, sym, ap₂}
 use mathlib.Core.Bool.{Bool, true, false, _&&_, and-false}
 use mathlib.Core.List.{List, [], _∷_, map}
 use Prim.Native.Nat.{ℕ, _<_}
@@ -26,19 +26,16 @@ readOnly v = record { writable = 0; size = v .size; kind = v .kind }
 abbrev pub typed : List Variable → Bool
 typed = every (λ v. isType (v .writable))
 
-module _ (vs : List Variable) where
-  usable-each : typed vs ≡ true → every usableVariable (map readOnly vs) ≡ every usableVariable vs
-  usable-each h = by vs h
-    where
-      by : (vs : List Variable) → typed vs ≡ true → every usableVariable (map readOnly vs) ≡ every usableVariable vs
-      by [] h = refl
-      by (v ∷ vs) h =
-          let w : (isType (v .writable) ≡ true) × (typed vs ≡ true) = and-true _ _ h in
-          ap₂ (λ t r. (t && usableSize (v .size) && fitsKind (v .size) (kindOf (v .kind))) && r) (sym (w .0)) (by vs (w .1))
+usable-each : (vs : List Variable) → typed vs ≡ true → every usableVariable (map readOnly vs) ≡ every usableVariable vs
+usable-each [] h = refl
+usable-each (v ∷ vs) h =
+    let w : (isType (v .writable) ≡ true) × (typed vs ≡ true) = and-true _ _ h in
+    ap₂ (λ t r. (t && usableSize (v .size) && fitsKind (v .size) (kindOf (v .kind))) && r) (sym (w .0)) (usable-each vs (w .1))
 
+module _ (vs : List Variable) where
   usable-alike : typed vs ≡ true → usableVariables (map readOnly vs) ≡ usableVariables vs
   unfolding usableVariables
-  usable-alike h = rw (length-map vs readOnly, usable-each h, map-map readOnly (λ v. v .size) vs)
+  usable-alike h = rw (length-map vs readOnly, usable-each vs h, map-map readOnly (λ v. v .size) vs)
 
   record-alike : (i : ℕ) → getD (map readOnly vs) i blank ≡ readOnly (getD vs i blank)
   record-alike i = List·getD-map readOnly vs i blank
@@ -47,7 +44,7 @@ module _ (vs : List Variable) where
   unfolding usableVariables
   unusable-many h = rw (lt-leb (length vs) 64 h, and-false (leb 1 (length vs)))
 
--- what is made of records without looking at types beyond whether they are types, and of unusable ones the same always
+-- what asks of types only that they are types, and makes the same of all lists that are unusable
 pub record Blind {A : Type 0} (f : List Variable → A) : Type 0 where
   pub types : (vs : List Variable) → typed vs ≡ true → f (map readOnly vs) ≡ f vs
   pub unusable : (vs us : List Variable) → usableVariables vs ≡ false → usableVariables us ≡ false → f vs ≡ f us

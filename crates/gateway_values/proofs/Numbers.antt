@@ -1,5 +1,5 @@
 -- The records by which numbers are read and written, as the definition has them and as the code lends them. Assumes nothing.
-use mathlib.Core.Path.{_≡_, refl, sym, ap, ap₂, _∙_}
+use mathlib.Core.Path.{_≡_, refl, sym, ap, _∙_}
 use mathlib.Core.Bool.{Bool, true, false}
 use mathlib.Core.List.{List, [], _∷_, map}
 use Prim.Native.Nat.{ℕ, zero, suc, _-_, min, _≤_, _<_}
@@ -11,7 +11,7 @@ use lib.Seq.{ext-getD, getD-take}
 use borrow.Author.Tests.{leb-true, leb-false}
 use borrow.Rule.Slice.PartMut.{midOf}
 use Rattle.bsmp.specs.Base.{bit}
-use Rattle.bsmp.specs.Board.{variable, Layout, isType, marked, sizeOf}
+use Rattle.bsmp.specs.Board.{isType}
 use Rattle.bsmp.specs.declared.Variable.{Variable}
 use Rattle.copies.specs.Put.{put}
 use Rattle.records.specs.Lending.{recordsBy, recordsOf}
@@ -22,7 +22,7 @@ use Rattle.asking.specs.Learning.{withKinds, recordsFor}
 use Rattle.learned.specs.Table.{sizesIn, tableOf}
 use Rattle.learned.specs.declared.Known.{Known}
 use Rattle.learned.proofs.Fronts.{front, size-count}
-use Rattle.plain.specs.Numbers.{PlainReading, plainReadingOf}
+use Rattle.plain.specs.Numbers.{PlainReading}
 use Rattle.plain.specs.Calls.{PlainBytesLeft, readingOf, writingOf}
 use Rattle.gateway_values.specs.Values.{Taken}
 use Rattle.gateway_values.proofs.Alike.{blank, readOnly, typed, unusable-many, Blind, reading-blind, writing-blind}

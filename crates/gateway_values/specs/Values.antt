@@ -1,13 +1,13 @@
 -- Where a member's bytes stand in the answer to a read of its group; and what of the supplied kinds is taken. Assumes nothing.
 use mathlib.Core.Path.{_≡_}
-use mathlib.Core.Bool.{Bool, not, _||_}
+use mathlib.Core.Bool.{not, _||_}
 use mathlib.Core.List.{List, [], _∷_, map}
 use Prim.Native.Nat.{ℕ, _+_, min, _<_}
 use lib.Dec.{ltb}
 use lib.ListN.{length, getD}
 use Rattle.bsmp.specs.Base.{sum, only, Test, test, first}
 use Rattle.bsmp.specs.Codes.{refusalNumber}
-use Rattle.bsmp.specs.Board.{variable, group, Layout, sizeOf, inGroup, members}
+use Rattle.bsmp.specs.Board.{variable, group, sizeOf, inGroup, members}
 use Rattle.bsmp.specs.Message.{noVariable, noGroup}
 use Rattle.bsmp.specs.declared.VariableNumber.{VariableNumber}
 use Rattle.bsmp.specs.declared.GroupNumber.{GroupNumber}

@@ -26,6 +26,22 @@ pub struct PlainPlace {
     pub length: usize,
 }
 
+fn no_place(refusal: Refusal) -> PlainPlace
+    ensures { λ r. ⌜ r ≡ noPlace refusal ⌝ }
+{
+    PlainPlace {
+        refusal: refusal.number(),
+        place: 0,
+        length: 0,
+    }
+}
+
+fn wide(size: u8) -> usize
+    ensures { λ r. ⌜ r ≡ size ⌝ }
+{
+    size as usize
+}
+
 // Where a variable's bytes stand in the answer to a read of a group: behind the head and the members before it.
 fn member_place(
     sizes: &[u8],
@@ -57,22 +73,7 @@ fn member_place(
     }
 }
 
-fn wide(size: u8) -> usize
-    ensures { λ r. ⌜ r ≡ size ⌝ }
-{
-    size as usize
-}
-
-fn no_place(refusal: Refusal) -> PlainPlace
-    ensures { λ r. ⌜ r ≡ noPlace refusal ⌝ }
-{
-    PlainPlace {
-        refusal: refusal.number(),
-        place: 0,
-        length: 0,
-    }
-}
-
+// The same in a table by its counts and places. One that breaks 01's limits tells no place; any other has no more records than places.
 pub fn place(
     variables: u64,
     writable: u64,
@@ -135,6 +136,8 @@ fn stored(n: usize) -> usize
     n
 }
 
+// Bytes to number, and number to bytes, by the learned sizes and the supplied kinds. A reading asks of a type only that it is one, so all
+// variables are lent as read-only.
 pub fn read_signed(
     variables: u64,
     writable: u64,
