@@ -1,8 +1,10 @@
--- Where a member's bytes stand in the answer to a read of its group. Assumes nothing.
+-- Where a member's bytes stand in the answer to a read of its group; and what of the supplied kinds is taken. Assumes nothing.
+use mathlib.Core.Path.{_≡_}
 use mathlib.Core.Bool.{Bool, not, _||_}
 use mathlib.Core.List.{List, [], _∷_, map}
-use Prim.Native.Nat.{ℕ, _+_}
+use Prim.Native.Nat.{ℕ, _+_, min, _<_}
 use lib.Dec.{ltb}
+use lib.ListN.{length, getD}
 use Rattle.bsmp.specs.Base.{sum, only, Test, test, first}
 use Rattle.bsmp.specs.Codes.{refusalNumber}
 use Rattle.bsmp.specs.Board.{variable, group, Layout, sizeOf, inGroup, members}
@@ -33,3 +35,8 @@ memberPlace x g i =
 
 unfoldable pub placeOf : Learned → (group variable : ℕ) → PlainPlace
 placeOf x g i = first (test 1 BoardUnusable (not (usableLearned x)) ∷ []) noPlace (memberPlace x (group g) (variable i))
+
+-- as many records as there are variables with a kind, and their kinds in a column, which has 64 places
+pub record Taken (variables : ℕ) (kinds : List ℕ) (count : ℕ) (column : List ℕ) : Type 0 where
+  pub counted : count ≡ min variables (length kinds)
+  pub kind-at : (i : ℕ) → i < 64 → i < length kinds → getD column i 0 ≡ getD kinds i 0

@@ -11,13 +11,12 @@ ghost use mathlib.Core.Bool.{true, false};
 ghost use mathlib.Core.List.{[]};
 ghost use lib.IntN.{pos};
 ghost use Prim.Native.Nat.{_≤_, min};
-ghost use lib.ListN.{length, take};
-ghost use Rattle.copies.specs.Put.{put};
+ghost use lib.ListN.{length};
 ghost use Rattle.learned.specs.Table.{knownBy, tableOf, tableIn};
 ghost use Rattle.plain.specs.Numbers.{signedSays, unsignedSays};
 ghost use Rattle.plain.specs.Calls.{plainBytesLeft, readingOf, writingOf};
 ghost use Rattle.asking.specs.Learning.{recordsFor};
-ghost use Rattle.gateway_values.specs.Values.{noPlace, memberPlace, placeOf};
+ghost use Rattle.gateway_values.specs.Values.{noPlace, memberPlace, placeOf, Taken};
 
 // Where a variable's bytes stand in a reply: refusal 0, its place and its length; or the refusal, and 0.
 #[repr(C)]
@@ -34,7 +33,10 @@ fn member_place(
     made: &[u64],
     g: GroupNumber,
     i: VariableNumber,
-) -> PlainPlace {
+) -> PlainPlace
+    requires { ⌜ length (now sizes) ≤ 64 ⌝ }
+    ensures { λ r. ⌜ r ≡ memberPlace (tableIn (now (sizes .entry)) writable (now (made .entry)) [] []) g i ⌝ }
+{
     let variable = i.0;
     let group = g.0;
     if sizes.len() <= variable {
@@ -51,8 +53,14 @@ fn member_place(
     PlainPlace {
         refusal: 0,
         place: 4 + before,
-        length: sizes[variable] as usize,
+        length: wide(sizes[variable]),
     }
+}
+
+fn wide(size: u8) -> usize
+    ensures { λ r. ⌜ r ≡ size ⌝ }
+{
+    size as usize
 }
 
 fn no_place(refusal: Refusal) -> PlainPlace
@@ -103,14 +111,18 @@ pub fn place(
     )
 }
 
-// How many records there are: a variable counts as far as there is a kind for it.
-fn records(variables: u64, kinds: usize) -> usize
-    ensures { λ r. ⌜ r ≡ min variables kinds ⌝ }
+// The kinds that the gateway supplies, as far as they have places; and how many records there are: a variable counts as far as there is a
+// kind for it.
+fn take_kinds(variables: u64, kinds: &[u8], column: &mut [u8; 64]) -> usize
+    ensures { λ r. ⌜ Taken variables (now (kinds .entry)) r (now (column .exit)) ⌝ }
 {
-    if variables < kinds as u64 {
+    let given = kinds.len();
+    let n = stored(given);
+    copies::copy_into(&mut column[..], &kinds[0..n]);
+    if variables < given as u64 {
         return variables as usize;
     }
-    kinds
+    given
 }
 
 // How many kinds have a place.
@@ -121,14 +133,6 @@ fn stored(n: usize) -> usize
         return 64;
     }
     n
-}
-
-// The kinds that the gateway supplies, as far as they have places.
-fn take_kinds(kinds: &[u8], column: &mut [u8; 64])
-    ensures { λ _. ⌜ now (column .exit) ≡ put (now (column .entry)) 0 (take 64 (now (kinds .entry))) ⌝ }
-{
-    let n = stored(kinds.len());
-    copies::copy_into(&mut column[..], &kinds[0..n]);
 }
 
 pub fn read_signed(
@@ -150,8 +154,7 @@ pub fn read_signed(
 {
     let types = [0u8; 64];
     let mut column = [0u8; 64];
-    take_kinds(kinds, &mut column);
-    let count = records(variables, kinds.len());
+    let count = take_kinds(variables, kinds, &mut column);
     plain::read_signed(count, &types, sizes, &column, variable, bytes)
 }
 
@@ -174,8 +177,7 @@ pub fn read_unsigned(
 {
     let types = [0u8; 64];
     let mut column = [0u8; 64];
-    take_kinds(kinds, &mut column);
-    let count = records(variables, kinds.len());
+    let count = take_kinds(variables, kinds, &mut column);
     plain::read_unsigned(count, &types, sizes, &column, variable, bytes)
 }
 
@@ -199,8 +201,7 @@ pub fn write_signed(
 {
     let types = [0u8; 64];
     let mut column = [0u8; 64];
-    take_kinds(kinds, &mut column);
-    let count = records(variables, kinds.len());
+    let count = take_kinds(variables, kinds, &mut column);
     plain::write_signed(count, &types, sizes, &column, variable, number, buffer)
 }
 
@@ -224,7 +225,6 @@ pub fn write_unsigned(
 {
     let types = [0u8; 64];
     let mut column = [0u8; 64];
-    take_kinds(kinds, &mut column);
-    let count = records(variables, kinds.len());
+    let count = take_kinds(variables, kinds, &mut column);
     plain::write_unsigned(count, &types, sizes, &column, variable, number, buffer)
 }
