@@ -3,7 +3,7 @@ use crate::arguments::Options;
 use crate::failure::{unwritable, Failure};
 use crate::line::Line;
 use crate::told::Teller;
-use cruachvel::{Answer, Gateway, GroupNumber, Masking, Refusal, Request, REPLY_ROOM};
+use cruachvel::{Answer, Gateway, GroupNumber, Masking, Refusal, Request, REQUEST_ROOM};
 use std::time::{Duration, Instant};
 
 pub struct Asker {
@@ -52,7 +52,7 @@ impl Asker {
         request: &Request,
         take: impl Fn(Answer) -> Option<T>,
     ) -> Result<T, Failure> {
-        let mut room = [0; REPLY_ROOM];
+        let mut room = [0; REQUEST_ROOM];
         let packet = self.gateway.ask(request, &mut room).map_err(unwritable)?;
         let repeatable = is_repeatable(request);
         let tries = if repeatable { self.retries + 1 } else { 1 };
@@ -116,7 +116,7 @@ impl Asker {
 
     /// Sends by multicast, and waits for nothing.
     pub fn tell(&mut self, request: &Request) -> Result<(), Failure> {
-        let mut room = [0; REPLY_ROOM];
+        let mut room = [0; REQUEST_ROOM];
         let packet = self.gateway.ask(request, &mut room).map_err(unwritable)?;
         let sent = self.send(packet);
         // Nothing is answered, so that only a silence tells the nodes where the next request starts.

@@ -12,7 +12,7 @@ use crate::board::Board;
 use crate::failure::Failure;
 use crate::told::{Facts, Teller};
 use crate::uses::Use;
-use cruachvel::VariableNumber;
+use cruachvel::{Learned, Refusal, VariableNumber};
 use suite::whatif::bytes::hex;
 use suite::whatif::json;
 
@@ -31,6 +31,26 @@ enum Needed {
     Group(usize),
     Curves,
     Functions,
+}
+
+// What there is to learn for a use, and whether its replies can't be read without; else it is learned only to be held against a board file.
+fn needed(wanted: &Use) -> Option<(Needed, bool)> {
+    match wanted {
+        Use::List | Use::Version => None,
+        Use::Read(_) | Use::Watch(_) | Use::WriteRead { .. } => Some((Needed::Variables, true)),
+        Use::Write(_) | Use::Mask(..) | Use::MakeGroup(_) | Use::RemoveGroups => {
+            Some((Needed::Variables, false))
+        }
+        Use::Group(group) => Some((Needed::Group(*group), true)),
+        Use::WriteGroup(group, _) | Use::MaskGroup(group, ..) => {
+            Some((Needed::Group(*group), false))
+        }
+        Use::Block(..) | Use::Download(..) | Use::Upload(..) | Use::Sum(_) => {
+            Some((Needed::Curves, true))
+        }
+        Use::WriteBlock(..) | Use::Renew(_) => Some((Needed::Curves, false)),
+        Use::Run(..) => Some((Needed::Functions, true)),
+    }
 }
 
 fn named(sort: &'static str, number: usize) -> Facts {
@@ -55,31 +75,17 @@ impl Run<'_> {
         if self.multicast {
             return self.tell_all(wanted);
         }
+        if let Some((needed, always)) = needed(wanted) {
+            if always || self.board.is_some() {
+                self.learn(needed)?;
+            }
+        }
         match wanted {
             Use::List => self.list(),
             Use::Version => self.version(),
-            Use::Read(variables) => {
-                self.learn(Needed::Variables)?;
-                for variable in variables {
-                    let value = self.value(VariableNumber(*variable))?;
-                    self.tell_value(value)?;
-                }
-                Ok(())
-            }
+            Use::Read(variables) => self.read(variables),
             Use::Watch(variables) => self.watch(variables),
-            Use::Group(group) => {
-                let values = self.group(*group)?;
-                self.tell_group(*group, &values)
-            }
-            Use::Write(_) | Use::WriteGroup(..) => {
-                if self.board.is_some() {
-                    match wanted {
-                        Use::WriteGroup(group, _) => self.learn(Needed::Group(*group))?,
-                        _ => self.learn(Needed::Variables)?,
-                    }
-                }
-                self.changes(wanted)
-            }
+            Use::Group(group) => self.group(*group),
             Use::WriteRead {
                 written,
                 read,
@@ -91,7 +97,9 @@ impl Run<'_> {
             Use::Upload(curve, file) => self.upload(*curve, file),
             Use::Sum(curve) => self.sum(*curve),
             Use::Run(function, input) => self.run(*function, input),
-            Use::Mask(..)
+            Use::Write(_)
+            | Use::WriteGroup(..)
+            | Use::Mask(..)
             | Use::MaskGroup(..)
             | Use::RemoveGroups
             | Use::WriteBlock(..)
@@ -108,15 +116,33 @@ impl Run<'_> {
             Needed::Curves => asker.learn_curves(teller)?,
             Needed::Functions => asker.learn_functions(teller)?,
         }
-        let learned = &self.asker.gateway.learned;
-        let other = self.board.as_ref().and_then(|board| {
-            let variables = board.other_variables(learned);
-            variables.or_else(|| match needed {
-                Needed::Curves => board.other_curves(learned),
-                Needed::Functions => board.other_functions(learned),
-                _ => None,
-            })
-        });
-        other.map_or(Ok(()), |other| Err(Failure::OtherBoard(other)))
+        self.held(|board, learned| match needed {
+            Needed::Curves => board.other_curves(learned),
+            Needed::Functions => board.other_functions(learned),
+            Needed::Variables | Needed::Group(_) => None,
+        })
+    }
+
+    // Holds the variables that were learned against the board file, and what else is said.
+    fn held(&self, also: impl Fn(&Board, &Learned) -> Option<String>) -> Result<(), Failure> {
+        let (board, gateway) = match &self.board {
+            Some(board) => (board, &self.asker.gateway),
+            None => return Ok(()),
+        };
+        let learned = &gateway.learned;
+        let variables = board.other_variables(learned);
+        if let Some(other) = variables.or_else(|| also(board, learned)) {
+            return Err(Failure::OtherBoard(other));
+        }
+        // A kind that doesn't go with its size spoils the readings of all.
+        let first = vec![0; learned.sizes[0].into()];
+        match gateway.number(VariableNumber(0), &first) {
+            Err(refusal @ Refusal::BoardUnusable) => {
+                let number = refusal.number();
+                let message = format!("its kinds are refused with {}, {}", number, refusal);
+                Err(Failure::Broken(format!("{}: {}", board.name, message)))
+            }
+            _ => Ok(()),
+        }
     }
 }

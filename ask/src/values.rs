@@ -53,6 +53,10 @@ impl Value {
                 })?;
                 (bytes, Some(number))
             }
+            None if !gateway.kinds.is_empty() && !word.ends_with(":hex") => {
+                let message = "the board file doesn't have it; bytes in hex are 3412:hex";
+                return Err(said(message.to_string()));
+            }
             Some(_) => (hex(word).map_err(said)?, None),
             None => {
                 let unknown = |message| {
@@ -148,8 +152,21 @@ mod tests {
         gateway
     }
 
+    // Of variable 3 without any kinds.
     fn meant(variable: usize, word: &str) -> Result<(Vec<u8>, Option<i128>), String> {
-        let value = Value::meant(&gateway(), VariableNumber(variable), word);
+        let mut gateway = gateway();
+        if variable == 3 {
+            gateway.kinds.clear();
+        }
+        told(&gateway, variable, word)
+    }
+
+    fn told(
+        gateway: &Gateway,
+        variable: usize,
+        word: &str,
+    ) -> Result<(Vec<u8>, Option<i128>), String> {
+        let value = Value::meant(gateway, VariableNumber(variable), word);
         match value {
             Ok(value) => Ok((value.bytes, value.number.map(i128::from))),
             Err(failure) => Err(failure.message()),
@@ -167,6 +184,14 @@ mod tests {
         assert_eq!(meant(2, "1234:hex"), Ok((vec![0x12, 0x34], None)));
         assert_eq!(meant(1, "5A"), Ok((vec![0x5A], None)));
         assert_eq!(meant(3, "1234"), Ok((vec![0x12, 0x34], None)));
+    }
+
+    #[test]
+    fn a_variable_that_the_board_file_lacks_takes_bytes_that_are_marked_so() {
+        let bytes = Ok((vec![0x10], None));
+        assert_eq!(told(&gateway(), 3, "10:hex"), bytes);
+        let refused = "variable 3: the board file doesn't have it; bytes in hex are 3412:hex";
+        assert_eq!(told(&gateway(), 3, "10"), Err(refused.to_string()));
     }
 
     #[test]

@@ -17,6 +17,8 @@ pub const SUM_SIZE: usize = 16;
 pub const MOST_PACKET: usize = 4104;
 /// The least length of a reply buffer.
 pub const REPLY_ROOM: usize = 4104;
+/// The least length of a buffer for requests, on the asking side.
+pub const REQUEST_ROOM: usize = 4104;
 
 /// The number of a variable. Variables, groups, curves and functions are each numbered from 0 on their own.
 #[derive(Clone, Copy, Debug, PartialEq, Eq, PartialOrd, Ord, Hash)]

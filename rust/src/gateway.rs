@@ -51,7 +51,7 @@ impl From<Number> for i128 {
 /// ```
 /// use cruachvel::{
 ///     Address, Answer, Board, Curve, Function, Gateway, Kind, Lists, Node, Number, Outcome, Request,
-///     Variable, VariableNumber, REPLY_ROOM,
+///     Variable, VariableNumber, REPLY_ROOM, REQUEST_ROOM,
 /// };
 ///
 /// let mut node = Node::new(Board {
@@ -69,7 +69,7 @@ impl From<Number> for i128 {
 ///
 /// let mut gateway = Gateway::new(5);
 /// gateway.kinds = vec![Kind::SignedBig, Kind::Plain, Kind::UnsignedLittle]; // they don't travel
-/// let (mut packet, mut reply) = ([0; REPLY_ROOM], [0; REPLY_ROOM]);
+/// let (mut packet, mut reply) = ([0; REQUEST_ROOM], [0; REPLY_ROOM]);
 ///
 /// let mut lists = Lists::new();
 /// while let Some(request) = lists.to_ask() {
@@ -123,7 +123,7 @@ impl Gateway {
 
     /// Writes a request at the start of the buffer, and no other byte: the packet. Refusals 2, 3 and 14, in this order.
     ///
-    /// The buffer has at least [`REPLY_ROOM`](crate::REPLY_ROOM) bytes.
+    /// The buffer has at least [`REQUEST_ROOM`](crate::REQUEST_ROOM) bytes.
     pub fn ask<'packet>(
         &self,
         request: &Request,

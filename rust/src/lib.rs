@@ -40,7 +40,7 @@ pub mod wire;
 pub use board::{
     Address, Board, Curve, CurveNumber, Function, FunctionNumber, GroupNumber, Groups, Kind, Table,
     Variable, VariableNumber, MOST_BLOCKS, MOST_CURVES, MOST_CURVE_BYTES, MOST_PACKET,
-    MOST_VALUE_BYTES, MOST_VARIABLES, REPLY_ROOM, SUM_SIZE,
+    MOST_VALUE_BYTES, MOST_VARIABLES, REPLY_ROOM, REQUEST_ROOM, SUM_SIZE,
 };
 pub use entries::{
     board_store, fresh_board, function_result, md5, packet, read_signed, read_unsigned,

@@ -2,7 +2,7 @@
 use cruachvel::{
     md5, Address, Answer, Board, Curve, CurveNumber, Function, FunctionNumber, Gateway,
     GroupNumber, Kind, Learned, ListedGroup, ListedVariable, Lists, Masking, Node, Number, Outcome,
-    Ran, Refusal, Request, Variable, VariableNumber, WireError, REPLY_ROOM, SUM_SIZE,
+    Ran, Refusal, Request, Variable, VariableNumber, WireError, REPLY_ROOM, REQUEST_ROOM, SUM_SIZE,
 };
 
 const SIGNED: VariableNumber = VariableNumber(0);
@@ -40,7 +40,7 @@ fn node_a() -> Node {
 
 // The packet of a request, if it can be written.
 fn asked(gateway: &Gateway, request: &Request) -> Result<Vec<u8>, Refusal> {
-    let mut packet = [0; REPLY_ROOM];
+    let mut packet = [0; REQUEST_ROOM];
     gateway.ask(request, &mut packet).map(<[u8]>::to_vec)
 }
 
@@ -211,12 +211,12 @@ fn a_request_that_can_t_be_written_is_refused_and_the_buffer_stays() {
     ];
     for (destination, request, expected) in refused {
         let gateway = Gateway::new(destination);
-        let mut packet = [0xAA; REPLY_ROOM];
+        let mut packet = [0xAA; REQUEST_ROOM];
         assert_eq!(
             gateway.ask(&request, &mut packet),
             expected.map(|()| &[][..])
         );
-        assert_eq!(packet, [0xAA; REPLY_ROOM]);
+        assert_eq!(packet, [0xAA; REQUEST_ROOM]);
         let short = gateway.ask(&request, &mut packet[1..]);
         let expected = match expected {
             Err(Refusal::BadAddress) => Refusal::BadAddress,
@@ -226,7 +226,7 @@ fn a_request_that_can_t_be_written_is_refused_and_the_buffer_stays() {
     }
     let most = Gateway::new(31);
     let whole = asked(&most, &Request::MakeGroup(&long[1..])).expect("4,099 bytes");
-    assert_eq!(whole.len(), REPLY_ROOM);
+    assert_eq!(whole.len(), REQUEST_ROOM);
 }
 
 #[test]

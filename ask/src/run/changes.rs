@@ -148,11 +148,13 @@ impl Run<'_> {
     ) -> Result<(Vec<u8>, Facts, String), Failure> {
         let number = GroupNumber(group);
         let members: Vec<VariableNumber> = self.asker.gateway.members(number).collect();
-        let all_in_one = words.len() == 1 && words[0].ends_with(":hex");
+        // Bytes in any case: all words in hex, or one for all members.
+        let all_hex = words.iter().all(|word| word.ends_with(":hex"));
         let mut values = Vec::new();
-        if self.board.is_some() && !members.is_empty() && !all_in_one {
+        if self.board.is_some() && !all_hex {
+            // What could be meant as a number is never taken as bytes only because a member isn't known.
             if members.len() != words.len() {
-                let (has, given) = (counted(members.len(), "member"), words.len());
+                let (has, given) = (counted(members.len(), "known member"), words.len());
                 let message = format!(
                     "group {} has {}, and takes as many values, not {}",
                     group, has, given

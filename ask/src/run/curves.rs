@@ -1,5 +1,5 @@
 //! Curves: their blocks, their sums, and whole ones up and down.
-use super::{named, text_fact, Needed, Run};
+use super::{named, text_fact, Run};
 use crate::failure::{digits, of_file, too_long, Failure};
 use crate::line::plain;
 use crate::told::Item;
@@ -31,7 +31,6 @@ impl Run<'_> {
     }
 
     pub(super) fn block(&mut self, curve: usize, block: usize) -> Result<(), Failure> {
-        self.learn(Needed::Curves)?;
         let bytes = self.read_block(curve, block)?;
         let mut facts = named("curve", curve);
         facts.push(("block", block.to_string()));
@@ -44,7 +43,6 @@ impl Run<'_> {
     }
 
     pub(super) fn sum(&mut self, curve: usize) -> Result<(), Failure> {
-        self.learn(Needed::Curves)?;
         let sum = digits(&self.read_sum(curve)?);
         let mut facts = named("curve", curve);
         facts.push(("sum", json::string(&sum)));
@@ -57,7 +55,6 @@ impl Run<'_> {
 
     // The shape of a curve; of one that there isn't, the node's error.
     fn shape(&mut self, curve: usize) -> Result<Curve, Failure> {
-        self.learn(Needed::Curves)?;
         self.read_sum(curve)?;
         let shape = self.asker.gateway.learned.shapes.get(curve).copied();
         shape.ok_or_else(|| Failure::Broken(format!("curve {}: its shape is not known", curve)))

@@ -25,16 +25,12 @@ impl Run<'_> {
             lists = next;
             writable.extend(groups);
         }
-        let learned = &self.asker.gateway.learned;
-        let other = self.board.as_ref().and_then(|board| {
-            let variables = board.other_variables(learned);
-            let curves = || board.other_curves(learned);
-            let functions = || board.other_functions(learned);
-            variables.or_else(curves).or_else(functions)
-        });
         let item = self.listed(&writable);
         self.teller.tell(item)?;
-        other.map_or(Ok(()), |other| Err(Failure::OtherBoard(other)))
+        self.held(|board, learned| {
+            let curves = board.other_curves(learned);
+            curves.or_else(|| board.other_functions(learned))
+        })
     }
 
     // The learned table; of the groups, whether they are writable is told by their list.

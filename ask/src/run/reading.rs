@@ -1,5 +1,5 @@
 //! Values, groups, the version and functions.
-use super::{array, named, numbers, text_fact, Needed, Run};
+use super::{array, named, numbers, text_fact, Run};
 use crate::failure::Failure;
 use crate::told::Item;
 use crate::values::Value;
@@ -47,7 +47,15 @@ impl Run<'_> {
         Ok(values.into_iter().map(read).collect())
     }
 
-    pub(super) fn tell_value(&mut self, value: Value) -> Result<(), Failure> {
+    pub(super) fn read(&mut self, variables: &[usize]) -> Result<(), Failure> {
+        for variable in variables {
+            let value = self.value(VariableNumber(*variable))?;
+            self.tell_value(value)?;
+        }
+        Ok(())
+    }
+
+    fn tell_value(&mut self, value: Value) -> Result<(), Failure> {
         self.teller.tell(Item {
             text: format!("variable {}: {}", value.variable.0, value.text()),
             value: Some(value.short()),
@@ -55,12 +63,8 @@ impl Run<'_> {
         })
     }
 
-    pub(super) fn group(&mut self, group: usize) -> Result<Vec<Value>, Failure> {
-        self.learn(Needed::Group(group))?;
-        self.values(&Request::ReadGroup(GroupNumber(group)))
-    }
-
-    pub(super) fn tell_group(&mut self, group: usize, values: &[Value]) -> Result<(), Failure> {
+    pub(super) fn group(&mut self, group: usize) -> Result<(), Failure> {
+        let values = self.values(&Request::ReadGroup(GroupNumber(group)))?;
         let line = |value: &Value| format!("variable {}: {}", value.variable.0, value.text());
         let text = match values.is_empty() {
             true => format!("group {} has no variable", group),
@@ -83,7 +87,6 @@ impl Run<'_> {
         read: usize,
         word: &str,
     ) -> Result<(), Failure> {
-        self.learn(Needed::Variables)?;
         let value = self.meant(written, word)?;
         let request = Request::WriteRead {
             written: value.variable,
@@ -131,7 +134,6 @@ impl Run<'_> {
     }
 
     pub(super) fn run(&mut self, function: usize, input: &[u8]) -> Result<(), Failure> {
-        self.learn(Needed::Functions)?;
         let take = |answer: Answer| match answer {
             Answer::Output(output) => Some(Ok(output.to_vec())),
             Answer::Failed(error) => Some(Err(error)),

@@ -1,5 +1,5 @@
 //! Reading again and again.
-use super::{Needed, Run};
+use super::Run;
 use crate::failure::Failure;
 use crate::told::Item;
 use crate::values::Value;
@@ -12,7 +12,6 @@ impl Run<'_> {
     // Goes on after a round that failed, and ends with the status of the last such one.
     pub(super) fn watch(&mut self, variables: &[usize]) -> Result<(), Failure> {
         let every = self.options.every.unwrap_or(Duration::from_secs(1));
-        self.learn(Needed::Variables)?;
         let start = Instant::now();
         let (mut rounds, mut failed, mut status) = (0, 0, 0);
         let mut due = start;
