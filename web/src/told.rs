@@ -17,7 +17,7 @@ pub fn line(session: &mut Session, line: &str, sum: bool) -> String {
 /// A reply that was captured, explained.
 pub fn reply(setting: &Setting, bytes: &str) -> String {
     match placed(bytes) {
-        Ok(bytes) => told(&captured(&bytes, setting)),
+        Ok(bytes) => told(&captured(&bytes, None, setting)),
         Err(wrong) => mistake(&wrong.message, Some(wrong.place)),
     }
 }
@@ -42,8 +42,7 @@ pub fn board_mistake(wrong: &Mistake) -> String {
 fn wrong_digit(line: &str) -> Option<usize> {
     let bytes = line.trim_start();
     let keyword = bytes.split_whitespace().next()?;
-    let is_call = !matches!(Line::of(keyword, ""), Ok(None));
-    if is_call || !bytes.starts_with(|letter: char| letter.is_ascii_hexdigit()) {
+    if Line::starts(keyword) || !bytes.starts_with(|letter: char| letter.is_ascii_hexdigit()) {
         return None;
     }
     let before = line.chars().count() - bytes.chars().count();

@@ -1,5 +1,6 @@
 //! The cases of docs/what-if.cases: questions about the node, each with calls that are run on the proved code, what they end in, and
 //! 01's sentence. docs/WHAT-IF.md is made from them. docs/settled.examples has calls alone.
+mod asking;
 mod file;
 mod nodes;
 mod page;

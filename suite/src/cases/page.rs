@@ -137,7 +137,7 @@ fn after_text(act: &Act, ran: &Ran) -> String {
         .map(|(variable, number)| format!("variable {} reads as {}", variable, number))
         .collect();
     match act.call {
-        Call::Read { .. } | Call::Write { .. } => (),
+        Call::Read { .. } | Call::Write { .. } | Call::Ask(_) => (),
         _ if ran.changes.is_empty() => lines.push("nothing is changed".to_string()),
         _ => lines.extend(ran.changes.iter().cloned()),
     }
