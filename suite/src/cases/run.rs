@@ -9,7 +9,7 @@ use crate::whatif::changes::changes;
 use crate::whatif::ended::Came;
 use crate::whatif::gateway::known_line;
 use crate::whatif::things::{curve, group, listed, value};
-use crate::whatif::{rule_of, Setting};
+use crate::whatif::{rule_of, Rule, Setting};
 
 /// What an act came to.
 #[derive(Debug)]
@@ -18,6 +18,8 @@ pub struct Ran {
     pub outcome: String,
     /// The step of the wire errors that decided, if one did.
     pub step: Option<u8>,
+    /// Why a gateway refused it, if it did.
+    pub reason: Option<String>,
     pub changes: Vec<String>,
 }
 
@@ -30,9 +32,14 @@ pub fn run(case: &Case, boards: &Boards, node: Node) -> Result<Vec<Ran>, Vec<Str
         setting.busy = act.busy.unwrap_or(setting.busy);
         let before = setting.clone();
         let came = node(&mut setting, &act.call);
+        let rule = rule_of(&act.call, &came, &before);
         let ran = Ran {
             outcome: came.line(),
-            step: rule_of(&act.call, &came, &before).step(),
+            step: rule.step(),
+            reason: match (rule, &act.call) {
+                (Rule::Refusal(_, _, reason), Call::Ask(_) | Call::Hear(..)) => Some(reason),
+                _ => None,
+            },
             changes: changes(&before, &setting),
         };
         wrong.extend(differences(act, &ran, &setting, node));

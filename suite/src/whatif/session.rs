@@ -65,7 +65,10 @@ impl Session {
         let outcome = format!("{} for the lines that follow", busy_text(marks));
         sheet.text("outcome", outcome);
         sheet.list("rule", rule);
-        sheet.list("changed", Vec::from_iter((before != marks).then(|| change)));
+        sheet.list(
+            "changed",
+            Vec::from_iter((before != marks).then_some(change)),
+        );
         sheet
     }
 }
