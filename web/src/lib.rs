@@ -69,10 +69,10 @@ pub extern "C" fn tell_summed() -> u64 {
     answered(|session, line| told::line(session, line, true))
 }
 
-/// Decodes a reply that was captured.
+/// Decodes a reply that was captured; the first line is its request, if that is known.
 #[no_mangle]
 pub extern "C" fn decode() -> u64 {
-    answered(|session, bytes| told::reply(&session.setting, bytes))
+    answered(|session, text| told::reply(&session.setting, text))
 }
 
 /// What the board of the session has and holds now.
