@@ -218,9 +218,8 @@ impl Asked {
 }
 
 fn masking(code: usize) -> Option<Masking> {
-    let all = Masking::ALL.into_iter();
-    all.into_iter()
-        .find(|masking| usize::from(masking.code()) == code)
+    let mut all = Masking::ALL.into_iter();
+    all.find(|masking| usize::from(masking.code()) == code)
 }
 
 // The number that a word stands for in this field.

@@ -254,7 +254,11 @@ fn reasons(reply: Packet, asked: &[Asked], setting: &Setting) -> Vec<String> {
         }
     }
     if lines.is_empty() {
-        lines.push("the board has nothing that it could be an answer about".to_string());
+        let why = match setting.known.variables {
+            0 => "the board answers nothing, so that a gateway can't learn its sizes",
+            _ => "the board has nothing that it could be an answer about",
+        };
+        lines.push(why.to_string());
     }
     if lines.len() > TOLD {
         let more = lines.len() - TOLD;

@@ -47,10 +47,7 @@ fn reply_parts(reply: Packet, call: &Call, before: &Setting) -> Vec<Part> {
         Call::Packet(request) => Asked::of_packet(Packet(request)),
         _ => None,
     };
-    let before = match reply.code() {
-        Some(0xE0..) => before.clone(),
-        _ => before.clone().learned(),
-    };
+    let before = before.clone().learned();
     let heard = asked.and_then(|asked| reply::heard_in(reply, asked, &before));
     reply::parts(reply, heard.as_ref(), &before)
 }

@@ -404,6 +404,11 @@ fn a_request_that_no_gateway_sends_is_told_and_its_reply_decoded_alone() {
 fn a_board_that_answers_nothing_is_not_learned() {
     let setting = parse("address 5\nvariable writable 128 plain").expect("a board");
     let text = decoded(&setting, "00 11 00 01 07 E7");
+    let expected =
+        "\nwrong     the board answers nothing, so that a gateway can't learn its sizes\n";
+    assert!(text.ends_with(expected), "{}", text);
+    let setting = parse("address 5\nvariable writable 1 plain").expect("a board");
+    let text = decoded(&setting, "00 51 00 00 AF");
     let expected = "\nwrong     the board has nothing that it could be an answer about\n";
     assert!(text.ends_with(expected), "{}", text);
 }

@@ -1,4 +1,5 @@
 //! whatif: what it prints, that its rules fit whatever the proved node does, and what it says to files and lines that it can't read.
+mod asking;
 mod board_files;
 mod call_rules;
 mod calls;
