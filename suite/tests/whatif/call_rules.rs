@@ -133,7 +133,7 @@ fn reply(random: &mut Random, setting: &Setting, asked: &Asked) -> Vec<u8> {
             vec![random.choose(&codes), 0, 0]
         }
     };
-    match random.below(12) {
+    match random.below(14) {
         0 => message.push(random.byte()),
         1 | 2 => message.truncate(random.below(message.len() + 1)),
         3 => message[0] = random.choose(&[0xE0, 0xE6, 0xE8, 0xE9, 0x11, 0x13, 0x51, 0x53]),
@@ -144,7 +144,8 @@ fn reply(random: &mut Random, setting: &Setting, asked: &Asked) -> Vec<u8> {
             let length = random.below(24);
             message.extend(random.bytes(length));
         }
-        6 if message.len() > 3 => {
+        6 => message.truncate(3),
+        7 if message.len() > 3 => {
             let place = random.within(3, message.len() - 1);
             let any = random.byte();
             message[place] = random.choose(&[0, 1, 64, 128, 255, any]);
