@@ -154,6 +154,12 @@ const FOR_PROGRAMS = ["ended", "step"];
 // Whether a step of the wire errors decided, or a local refusal.
 const isRefused = ({ ended, step }) => step !== undefined || Boolean(ended?.startsWith("refused"));
 
+// What came of a captured reply, where it is known.
+function outcomeOf(facts) {
+  if (!facts.outcome) return [];
+  return [element("p", { className: `told ${isRefused(facts) ? "refused" : ""}`, textContent: facts.outcome })];
+}
+
 function factsOf(facts) {
   const told = Object.entries(facts).filter(([name]) => name !== "outcome" && !FOR_PROGRAMS.includes(name));
   return told.flatMap(([name, fact]) => [element("h3", { textContent: name }), factOf(name, fact)]);
@@ -305,10 +311,10 @@ function showQuestion(event) {
 
 function decode(event) {
   event.preventDefault();
-  const answer = ask("decode", part("reply").value);
-  complain("reply-mistake", "");
-  part("reply-facts").replaceChildren(...(answer.facts ? factsOf(answer.facts) : []));
-  if (answer.mistake) complainOf(part("reply"), answer);
+  const answer = ask("decode", `${part("request").value}\n${part("reply").value}`);
+  ["request-mistake", "reply-mistake"].forEach((id) => complain(id, ""));
+  part("reply-facts").replaceChildren(...(answer.facts ? [...outcomeOf(answer.facts), ...factsOf(answer.facts)] : []));
+  if (answer.mistake) complainOf(part(answer.field ?? "reply"), answer);
 }
 
 function startKeyword(keyword) {

@@ -294,7 +294,8 @@ pub fn held(curves: &[u32], blocks: &[u8], lengths: &[u16], curve: usize) -> Vec
     held
 }
 
-fn byte_place(curves: &[u32], curve: usize) -> Range<usize> {
+/// Where the bytes of a curve with one of these records stand in the store, if that is as long as they say.
+pub fn byte_place(curves: &[u32], curve: usize) -> Range<usize> {
     let bytes = |record: &[u32]| (record[1] as usize).saturating_mul(record[2] as usize);
     place_of(curves, curve, bytes)
 }

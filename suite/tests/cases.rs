@@ -171,11 +171,84 @@ const CHANGES: &[(&str, &str, &str)] = &[
     ),
 ];
 
+const CASE_OF_ASKING: &str = "\
+question What is heard?
+answer This.
+board a
+ask 5 make-group 2 0
+sends 05 30 00 02 00 02 C7
+known group 3 none
+hear 00 E0 00 00 20
+heard done
+known group 3 0 2
+known variables read-only 4, writable 1, writable 2
+ask 5 read 0
+sends 05 10 00 01 00 EA
+hear 00 11 00 04 FF*3 FD F1
+heard values 0 FF*3 FD is -3
+unchanged
+forget
+done
+known curves none
+says So.";
+
+const CHANGES_IN_ASKING: &[(&str, &str, &str)] = &[
+    (
+        "sends 05 30 00 02 00 02 C7",
+        "sends 05 30 00 02 02 00 C7",
+        "line 5: it says \"sends 05 30 00 02 02 00 C7\", and it is \"sends 05 30 00 02 00 02 C7\"",
+    ),
+    (
+        "known group 3 none",
+        "known group 3 0 2",
+        "line 6: it says \"known group 3 0 2\", and it is \"known group 3 none\"",
+    ),
+    (
+        "heard done",
+        "heard error E4",
+        "line 8: it says \"heard error E4\", and it is \"heard done\"",
+    ),
+    (
+        "known group 3 0 2",
+        "unchanged",
+        "line 9: it says \"unchanged\", and it is \"known group 3: none -> variables 0 2\"",
+    ),
+    (
+        "4, writable 1",
+        "4, read-only 1",
+        "line 10: it says \"known variables read-only 4, read-only 1, writable 2\", and it is \"known variables read-only 4, writable 1, writable 2\"",
+    ),
+    (
+        "FD is -3",
+        "FD is 4294967293",
+        "line 14: it says \"heard values 0 FF*3 FD is 4294967293\", and it is \"heard values 0 FF FF FF FD is -3\"",
+    ),
+    (
+        "FD is -3",
+        "FD",
+        "line 14: it says \"heard values 0 FF*3 FD\", and it is \"heard values 0 FF FF FF FD is -3\"",
+    ),
+    (
+        "known curves none",
+        "known curves writable 4 2",
+        "line 18: it says \"known curves writable 4 2\", and it is \"known curves none\"",
+    ),
+    (
+        "known curves none",
+        "known curve none",
+        "line 18: \"known curve none\" can't be found out",
+    ),
+];
+
 #[test]
 fn a_line_that_is_not_so_is_found() {
     assert_eq!(wrong(CASE), [""; 0]);
     for (old, new, message) in CHANGES {
         assert_eq!(wrong(&CASE.replace(old, new)), [*message]);
+    }
+    assert_eq!(wrong(CASE_OF_ASKING), [""; 0]);
+    for (old, new, message) in CHANGES_IN_ASKING {
+        assert_eq!(wrong(&CASE_OF_ASKING.replace(old, new)), [*message]);
     }
 }
 
@@ -258,6 +331,10 @@ const MISTAKES: &[(&str, &str)] = &[
     (
         "question What?\nresult 0 due failed",
         "line 2: a function fails with one error byte",
+    ),
+    (
+        "question What?\nask 5 read 0\nquestion And?\nhear 00 E0 00 00 20",
+        "line 4: a reply is heard to what was asked before it, and nothing was",
     ),
     (
         "question What?\nbusy 64",

@@ -15,10 +15,7 @@ const SHOWN: usize = 16;
 
 /// Board A of 01, which is there before any other.
 pub fn board_a() -> Setting {
-    Setting {
-        lent: boards::board_a(),
-        busy: 0,
-    }
+    Setting::new(boards::board_a(), 0)
 }
 
 /// What the board has, thing by thing: its name, what it is, what it holds, and of a variable whether it is busy.

@@ -20,7 +20,7 @@ thread_local! {
     static DESK: RefCell<Desk> = RefCell::new(Desk {
         text: Vec::new(),
         answer: String::new(),
-        session: Session { setting: board::board_a(), sum: false },
+        session: Session::new(board::board_a()),
     });
 }
 
@@ -50,7 +50,7 @@ fn answered(answer: impl FnOnce(&mut Session, &str) -> String) -> u64 {
 pub extern "C" fn begin() -> u64 {
     answered(|session, text| match board_file::parse(text) {
         Ok(setting) => {
-            session.setting = setting;
+            *session = Session::new(setting);
             "{}".to_string()
         }
         Err(mistake) => told::board_mistake(&mistake),
@@ -69,10 +69,10 @@ pub extern "C" fn tell_summed() -> u64 {
     answered(|session, line| told::line(session, line, true))
 }
 
-/// Decodes a reply that was captured.
+/// Decodes a reply that was captured; the first line is its request, if that is known.
 #[no_mangle]
 pub extern "C" fn decode() -> u64 {
-    answered(|session, bytes| told::reply(&session.setting, bytes))
+    answered(|session, text| told::reply(&session.setting, text))
 }
 
 /// What the board of the session has and holds now.

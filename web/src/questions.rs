@@ -29,7 +29,7 @@ fn calls() -> impl Iterator<Item = String> {
     let lines = HELP.lines().filter_map(|line| line.strip_prefix("  "));
     lines.filter_map(|line| {
         let keyword = line.split(' ').next()?;
-        if matches!(Line::of(keyword, ""), Ok(None)) {
+        if !Line::starts(keyword) {
             return None;
         }
         let (form, means) = line.split_once("  ")?;

@@ -1,6 +1,6 @@
 //! What is said of a line, a reply or a board file.
 use suite::whatif::board_file::Mistake;
-use suite::whatif::bytes::placed;
+use suite::whatif::bytes::{placed, Wrong};
 use suite::whatif::call::Line;
 use suite::whatif::json::{object, string};
 use suite::whatif::{captured, Session, Setting, Sheet};
@@ -14,12 +14,26 @@ pub fn line(session: &mut Session, line: &str, sum: bool) -> String {
     }
 }
 
-/// A reply that was captured, explained.
-pub fn reply(setting: &Setting, bytes: &str) -> String {
-    match placed(bytes) {
-        Ok(bytes) => told(&captured(&bytes, setting)),
+/// A reply that was captured, explained; the first line is its request, if it isn't empty.
+pub fn reply(setting: &Setting, text: &str) -> String {
+    let (request, reply) = text.split_once('\n').unwrap_or(("", text));
+    let request = match placed(request) {
+        Ok(bytes) => Some(bytes).filter(|bytes| !bytes.is_empty()),
+        Err(wrong) => return request_mistake(&wrong),
+    };
+    match placed(reply) {
+        Ok(bytes) => told(&captured(&bytes, request.as_deref(), setting)),
         Err(wrong) => mistake(&wrong.message, Some(wrong.place)),
     }
+}
+
+// It is told in which of both fields it stands.
+fn request_mistake(wrong: &Wrong) -> String {
+    object([
+        ("mistake", string(&wrong.message)),
+        ("place", wrong.place.to_string()),
+        ("field", string("request")),
+    ])
 }
 
 fn told(sheet: &Sheet) -> String {
@@ -42,8 +56,7 @@ pub fn board_mistake(wrong: &Mistake) -> String {
 fn wrong_digit(line: &str) -> Option<usize> {
     let bytes = line.trim_start();
     let keyword = bytes.split_whitespace().next()?;
-    let is_call = !matches!(Line::of(keyword, ""), Ok(None));
-    if is_call || !bytes.starts_with(|letter: char| letter.is_ascii_hexdigit()) {
+    if Line::starts(keyword) || !bytes.starts_with(|letter: char| letter.is_ascii_hexdigit()) {
         return None;
     }
     let before = line.chars().count() - bytes.chars().count();

@@ -268,6 +268,13 @@ def a_reply_is_decoded(page):
     page.browser.type("#reply", "00 1")
     page.browser.click("#reply-form button")
     page.sees("#reply-mistake", "a byte has two digits, and at place 4 stands one")
+    page.browser.type("#request", READ)
+    page.browser.type("#reply", "00 11 00 03 FF FF FD F1")
+    page.browser.click("#reply-form button")
+    page.sees("#reply-facts", "refused with 13, reply doesn't fit the request", "10, read a variable: variable 0", "3 bytes, and variable 0 has 4")
+    page.browser.type("#request", "05 1")
+    page.browser.click("#reply-form button")
+    page.sees("#request-mistake", "a byte has two digits, and at place 4 stands one")
 
 
 # What can be used: whether it has a name, and how high it is. A checkbox is as high as its label.
@@ -293,7 +300,7 @@ def it_fits_a_telephone(page):
 
 # ---- The handbook's questions, on the page and by whatif ----
 
-CALLS = ("packet", "store", "read", "write", "result", "fresh", "busy")
+CALLS = ("packet", "store", "read", "write", "result", "fresh", "busy", "ask", "hear", "forget")
 SHOW_ALL = """about.questions.map(({ question }, place) => {
     part("question").value = place;
     part("question-form").requestSubmit();

@@ -46,18 +46,18 @@ fn run(wanted: Wanted) -> Result<(), Stop> {
     if wanted.version {
         return writeln!(output, "whatif {}", VERSION).map_err(unwritable);
     }
-    let mut session = Session {
-        setting: setting(&wanted)?,
-        sum: wanted.sum,
-    };
+    let mut session = Session::new(setting(&wanted)?);
+    session.sum = wanted.sum;
     let mut teller = Teller {
         json: wanted.json,
         met: false,
         output,
     };
+    let request = wanted.request.as_deref().map(bytes::bytes).transpose();
+    let request = request.map_err(|message| unreadable("--request", message))?;
     for reply in &wanted.replies {
         let reply = bytes::bytes(reply).map_err(|message| unreadable("--reply", message))?;
-        teller.put(&captured(&reply, &session.setting))?;
+        teller.put(&captured(&reply, request.as_deref(), &session.setting))?;
     }
     for (place, line) in &wanted.lines {
         let told = session.tell(line);
@@ -73,10 +73,7 @@ fn run(wanted: Wanted) -> Result<(), Stop> {
 fn setting(wanted: &Wanted) -> Result<Setting, Stop> {
     let mut setting = match &wanted.board {
         Some(path) => board_file::read(Path::new(path)).map_err(|message| (message, 1))?,
-        None => Setting {
-            lent: board_a(),
-            busy: 0,
-        },
+        None => Setting::new(board_a(), 0),
     };
     setting.busy = wanted.busy.unwrap_or(setting.busy);
     Ok(setting)

@@ -1,4 +1,5 @@
 //! How a file of cases is read: questions or settled examples. Each line is a keyword and what belongs to it.
+use crate::whatif::asked::Asked;
 use crate::whatif::bytes::repeated;
 use crate::whatif::call::{Call, Line};
 
@@ -29,10 +30,10 @@ pub struct Act {
     pub expected: Vec<(usize, String)>,
 }
 
-const OUTCOMES: [&str; 7] = [
-    "reply", "silence", "run", "refused", "done", "number", "bytes",
+const OUTCOMES: [&str; 9] = [
+    "reply", "silence", "run", "refused", "done", "number", "bytes", "sends", "heard",
 ];
-const STATES: [&str; 8] = [
+const STATES: [&str; 9] = [
     "step",
     "unchanged",
     "variable",
@@ -41,6 +42,7 @@ const STATES: [&str; 8] = [
     "length",
     "sum",
     "group",
+    "known",
 ];
 
 /// The questions of a file, or the line and what is wrong with it.
@@ -69,6 +71,7 @@ fn cases(text: &str, start: &'static str) -> Result<Vec<Case>, String> {
         line: 0,
         section: String::new(),
         busy: None,
+        asked: None,
         cases: Vec::new(),
     };
     for (place, line) in text.lines().enumerate() {
@@ -105,13 +108,20 @@ struct Reader {
     line: usize,
     section: String,
     busy: Option<u64>,
+    // What the gateway of the case asked last.
+    asked: Option<Asked>,
     cases: Vec<Case>,
 }
 
 impl Reader {
     fn take(&mut self, keyword: &str, rest: &str) -> Result<(), String> {
-        match Line::of(keyword, rest)? {
-            Some(Line::Call(call)) => self.act(call, rest),
+        match Line::of(keyword, rest, self.asked.as_ref())? {
+            Some(Line::Call(call)) => {
+                if let Call::Ask(asked) = &call {
+                    self.asked = Some(asked.clone());
+                }
+                self.act(call, rest)
+            }
             Some(Line::Busy(marks)) => {
                 self.busy = Some(marks);
                 Ok(())
@@ -147,6 +157,7 @@ impl Reader {
             _ => return Err(format!("an example is marked P or not, and not {:?}", rest)),
         };
         self.busy = None;
+        self.asked = None;
         self.cases.push(Case {
             line: self.line,
             section: self.section.clone(),

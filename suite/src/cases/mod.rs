@@ -1,5 +1,6 @@
-//! The cases of docs/what-if.cases: questions about the node, each with calls that are run on the proved code, what they end in, and
-//! 01's sentence. docs/WHAT-IF.md is made from them. docs/settled.examples has calls alone.
+//! The cases of docs/what-if.cases: questions about the node, and about a gateway that asks it, each with calls that are run on the proved
+//! code, what they end in, and 01's sentence. docs/WHAT-IF.md is made from them. docs/settled.examples has calls alone.
+mod asking;
 mod file;
 mod nodes;
 mod page;
@@ -66,8 +67,11 @@ fn named(message: String) -> String {
     format!("what-if.cases: {}", message)
 }
 
-// The cases of a folder with their boards and what each act came to, if all hold on the proved node.
-fn held(docs: &Path) -> Result<(Vec<Case>, Boards, Vec<Vec<Ran>>), Vec<String>> {
+// Cases with their boards and what each act came to.
+type Held = (Vec<Case>, Boards, Vec<Vec<Ran>>);
+
+// The cases of a folder, if all hold on the proved node.
+fn held(docs: &Path) -> Result<Held, Vec<String>> {
     let one = |message: String| vec![message];
     let text = read(&docs.join("what-if.cases")).map_err(one)?;
     let cases = parse(&text).map_err(named).map_err(one)?;

@@ -1,16 +1,27 @@
-//! Carries out the calls of a case by the second node.
-use crate::lent::Lent;
+//! Carries out the calls of a case by the second node, and by the second asking side.
+use super::asking;
 use crate::second;
 use crate::second_lent::SecondLent;
 use crate::whatif::call::Call;
 use crate::whatif::ended::{Came, Ended, FILLING};
-use cruachvel::{Refusal, MOST_PACKET};
+use crate::whatif::Setting;
+use cruachvel::{Learned, Refusal, MOST_PACKET};
 
-/// A node: it carries out a call on what a board lends, with these busy marks.
-pub type Node = fn(&mut Lent, u64, &Call) -> Came;
+/// A node with its asking side: it carries out a call on a board.
+pub type Node = fn(&mut Setting, &Call) -> Came;
 
-/// The second node.
-pub fn second(lent: &mut Lent, busy: u64, call: &Call) -> Came {
+/// The second node and the second asking side.
+pub fn second(setting: &mut Setting, call: &Call) -> Came {
+    match call {
+        Call::Ask(asked) => return asking::ask(asked),
+        Call::Hear(asked, reply) => return asking::hear(setting, asked, reply),
+        Call::Forget => {
+            setting.known = Learned::new();
+            return Came::Forgot;
+        }
+        _ => (),
+    }
+    let (lent, busy) = (&mut setting.lent, setting.busy);
     let mut lends = SecondLent::new(lent);
     lends.buffer = vec![FILLING; MOST_PACKET];
     let came = second_call(&mut lends, busy, call);
@@ -57,6 +68,7 @@ fn second_call(lends: &mut SecondLent, busy: u64, call: &Call) -> Came {
             number,
             room,
         } => second_write(lends, *signed, *variable, *number, *room),
+        Call::Ask(_) | Call::Hear(..) | Call::Forget => unreachable!("the asking side's"),
     }
 }
 
@@ -85,7 +97,7 @@ fn second_write(
     Came::of(written.map_err(refusal), |()| Came::Bytes(buffer.clone()))
 }
 
-fn refusal(number: u8) -> Refusal {
+pub(super) fn refusal(number: u8) -> Refusal {
     Refusal::of(number).unwrap_or_else(|| panic!("{} is no refusal", number))
 }
 

@@ -14,6 +14,9 @@ const HEAD: &str = "# What does the node do if
 Questions about the node, each with calls, what the proved code makes of them, and the sentence of 01, or of a change request, that decides.
 Bytes are in hex; `00*9` stands for nine of them. Board A is that of 01; the other boards stand in `boards/`, and `BOARD-FILE.md` says how to read them.
 
+The last chapter is about a gateway that asks the node: `ask` is what it is told to send, and where; `hear` a reply to what it asked last. It
+has learned the board as it is at first, and has its kinds; `forget` leaves it with nothing. Its numbers are decimal.
+
 This page is made from `what-if.cases` by the program `cases` of the test suite. The tests run every case on the proved code and compare
 this page with what it would say today. `tools/whatif` explains any other packet; its commands below are run at the top of the repository.
 ";
@@ -121,7 +124,14 @@ fn outcome_text(act: &Act, ran: &Ran) -> String {
         }
         "refused" => {
             let refusal = rest.parse().ok().and_then(Refusal::of);
-            format!("`{}`: {}", said, refusal.map_or("", Refusal::words))
+            let reason = ran.reason.as_ref();
+            let reason = reason.map_or(String::new(), |reason| format!("; {}", reason));
+            format!(
+                "`{}`: {}{}",
+                said,
+                refusal.map_or("", Refusal::words),
+                reason
+            )
         }
         _ => format!("`{}`{}", said, step),
     }
@@ -137,7 +147,7 @@ fn after_text(act: &Act, ran: &Ran) -> String {
         .map(|(variable, number)| format!("variable {} reads as {}", variable, number))
         .collect();
     match act.call {
-        Call::Read { .. } | Call::Write { .. } => (),
+        Call::Read { .. } | Call::Write { .. } | Call::Ask(_) => (),
         _ if ran.changes.is_empty() => lines.push("nothing is changed".to_string()),
         _ => lines.extend(ran.changes.iter().cloned()),
     }
@@ -148,7 +158,11 @@ fn after_text(act: &Act, ran: &Ran) -> String {
 fn command(case: &Case) -> Option<String> {
     let busy = case.acts.first()?.busy;
     let simple = |act: &Act| {
-        matches!(act.call, Call::Packet(_)) && act.busy == busy && !act.text.contains('*')
+        let shown = matches!(
+            act.call,
+            Call::Packet(_) | Call::Ask(_) | Call::Hear(..) | Call::Forget
+        );
+        shown && act.busy == busy && !act.text.contains('*')
     };
     if !case.with.is_empty() || busy == Some(0) || !case.acts.iter().all(simple) {
         return None;
@@ -161,7 +175,10 @@ fn command(case: &Case) -> Option<String> {
         command += &format!(" --busy {}", listed(members(busy)).replace(' ', ","));
     }
     for act in &case.acts {
-        command += &format!(" \"{}\"", act.text);
+        command += &match act.call.words().0 {
+            "packet" => format!(" \"{}\"", act.text),
+            keyword => format!(" \"{}\"", [keyword, &act.text].join(" ").trim_end()),
+        };
     }
     Some(command)
 }

@@ -7,8 +7,9 @@ use crate::whatif::bytes::hex;
 use crate::whatif::call::Call;
 use crate::whatif::changes::changes;
 use crate::whatif::ended::Came;
-use crate::whatif::rule_of;
+use crate::whatif::gateway::known_line;
 use crate::whatif::things::{curve, group, listed, value};
+use crate::whatif::{rule_of, Rule, Setting};
 
 /// What an act came to.
 #[derive(Debug)]
@@ -17,6 +18,8 @@ pub struct Ran {
     pub outcome: String,
     /// The step of the wire errors that decided, if one did.
     pub step: Option<u8>,
+    /// Why a gateway refused it, if it did.
+    pub reason: Option<String>,
     pub changes: Vec<String>,
 }
 
@@ -26,15 +29,20 @@ pub fn run(case: &Case, boards: &Boards, node: Node) -> Result<Vec<Ran>, Vec<Str
     let mut setting = case.setting(boards).map_err(place)?;
     let (mut all, mut wrong) = (Vec::new(), Vec::new());
     for act in &case.acts {
-        let mut before = setting.clone();
-        before.busy = act.busy.unwrap_or(setting.busy);
-        let came = node(&mut setting.lent, before.busy, &act.call);
+        setting.busy = act.busy.unwrap_or(setting.busy);
+        let before = setting.clone();
+        let came = node(&mut setting, &act.call);
+        let rule = rule_of(&act.call, &came, &before);
         let ran = Ran {
             outcome: came.line(),
-            step: rule_of(&act.call, &came, &before).step(),
-            changes: changes(&before.lent, &setting.lent),
+            step: rule.step(),
+            reason: match (rule, &act.call) {
+                (Rule::Refusal(_, _, reason), Call::Ask(_) | Call::Hear(..)) => Some(reason),
+                _ => None,
+            },
+            changes: changes(&before, &setting),
         };
-        wrong.extend(differences(act, &ran, &setting.lent, node));
+        wrong.extend(differences(act, &ran, &setting, node));
         all.push(ran);
     }
     if wrong.is_empty() {
@@ -45,7 +53,7 @@ pub fn run(case: &Case, boards: &Boards, node: Node) -> Result<Vec<Ran>, Vec<Str
 }
 
 // The lines of an act that are not so, with what is.
-fn differences(act: &Act, ran: &Ran, after: &Lent, node: Node) -> Vec<String> {
+fn differences(act: &Act, ran: &Ran, after: &Setting, node: Node) -> Vec<String> {
     if act.expected.is_empty() {
         return vec![format!(
             "line {}: the call has no outcome; it ends in: {}",
@@ -72,7 +80,8 @@ fn differences(act: &Act, ran: &Ran, after: &Lent, node: Node) -> Vec<String> {
 }
 
 // What a line about the state has to say.
-fn state_line(said: &str, ran: &Ran, after: &Lent, node: Node) -> Option<String> {
+fn state_line(said: &str, ran: &Ran, setting: &Setting, node: Node) -> Option<String> {
+    let after = &setting.lent;
     let words: Vec<&str> = said.split_whitespace().collect();
     let place = |word: usize| words.get(word)?.parse::<usize>().ok();
     let tail = match words[0] {
@@ -96,7 +105,8 @@ fn state_line(said: &str, ran: &Ran, after: &Lent, node: Node) -> Option<String>
         }
         "variable" => hex(variable(after, place(1)?)?),
         "sum" => hex(sum(after, place(1)?)?),
-        "reads" => number(after, place(1)?, node)?.to_string(),
+        "reads" => number(setting, place(1)?, node)?.to_string(),
+        "known" => return known(setting, &words),
         _ => return None,
     };
     Some(
@@ -104,6 +114,20 @@ fn state_line(said: &str, ran: &Ran, after: &Lent, node: Node) -> Option<String>
             .trim()
             .to_string(),
     )
+}
+
+// What the gateway knows: all variables, curves or functions, or a group.
+fn known(setting: &Setting, words: &[&str]) -> Option<String> {
+    let seen = setting.seen();
+    match words {
+        ["known", "group", number, ..] => {
+            let found = group(&seen, number.parse().ok()?);
+            let members = found.map_or("none".to_string(), |group| listed(members(group.set)));
+            Some(format!("known group {} {}", number, members))
+        }
+        ["known", sort, ..] => Some(format!("known {} {}", sort, known_line(&seen, sort)?)),
+        _ => None,
+    }
 }
 
 fn variable(lent: &Lent, number: usize) -> Option<&[u8]> {
@@ -117,15 +141,15 @@ fn sum(lent: &Lent, number: usize) -> Option<&[u8]> {
 }
 
 // The number that a variable's bytes mean to this node.
-fn number(lent: &Lent, number: usize, node: Node) -> Option<i128> {
-    let bytes = variable(lent, number)?;
+fn number(setting: &Setting, number: usize, node: Node) -> Option<i128> {
+    let bytes = variable(&setting.lent, number)?;
     let read = |signed| {
         let call = Call::Read {
             signed,
             variable: number,
             bytes: bytes.to_vec(),
         };
-        match node(&mut lent.clone(), 0, &call) {
+        match node(&mut setting.clone(), &call) {
             Came::Number(number) => Some(number),
             _ => None,
         }

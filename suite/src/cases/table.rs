@@ -1,4 +1,5 @@
-//! The cases as a table in C, for ctest/cases.c: each call with what came of it on a node, and a digest of the state that it left.
+//! The cases as a table in C, for ctest/cases.c: each call of the node with what came of it, and a digest of the state that it left. What a
+//! gateway sends and hears is left out.
 use super::file::{Act, Case};
 use super::nodes::Node;
 use super::Boards;
@@ -11,13 +12,14 @@ use std::fmt::Display;
 /// The table, or why there is none. Whether the cases hold is for others to see.
 pub fn table(cases: &[Case], boards: &Boards, node: Node) -> Result<String, String> {
     let (mut text, mut rows) = (String::new(), Vec::new());
-    for case in cases {
+    for case in cases.iter().filter(|case| case.acts.iter().any(of_node)) {
         let mut setting = case.setting(boards)?;
         let board = board(&mut text, case.line, &setting.lent);
         let mut acts = Vec::new();
-        for act in &case.acts {
-            let busy = act.busy.unwrap_or(setting.busy);
-            let came = node(&mut setting.lent, busy, &act.call);
+        for act in case.acts.iter().filter(|act| of_node(act)) {
+            setting.busy = act.busy.unwrap_or(setting.busy);
+            let busy = setting.busy;
+            let came = node(&mut setting, &act.call);
             let (call, came) = (call(&mut text, act), came_to(&mut text, act, &came));
             let left = digest(&setting.lent);
             acts.push(format!(
@@ -35,6 +37,10 @@ pub fn table(cases: &[Case], boards: &Boards, node: Node) -> Result<String, Stri
     }
     array(&mut text, "struct whole_case", "cases", &rows);
     Ok(text)
+}
+
+fn of_node(act: &Act) -> bool {
+    !matches!(act.call, Call::Ask(_) | Call::Hear(..) | Call::Forget)
 }
 
 // Writes an array, and gives it with its length; of nothing, NULL and 0.
@@ -151,6 +157,7 @@ impl<'a> Row<'a> {
                 room: REPLY_ROOM,
                 ..Row::new("RESULT", *function, bytes)
             },
+            Call::Ask(_) | Call::Hear(..) | Call::Forget => unreachable!("left out"),
         }
     }
 
@@ -200,6 +207,7 @@ fn came_to(text: &mut String, act: &Act, came: &Came) -> String {
             format!("REFUSED, {}, 0, false, 0, NULL, 0", refusal.number())
         }
         Came::Done | Came::Fresh => "DONE, 0, 0, false, 0, NULL, 0".to_string(),
+        Came::Sends(_) | Came::Heard(_) | Came::Forgot => unreachable!("left out"),
         Came::Number(number) => {
             format!("DONE, 0, 0, false, UINT64_C({}), NULL, 0", *number as u64)
         }

@@ -14,6 +14,8 @@ pub struct Wanted {
     pub sum: bool,
     pub json: bool,
     pub replies: Vec<String>,
+    /// What the replies are answers to.
+    pub request: Option<String>,
     /// Lines, each with the place of its argument, from 1.
     pub lines: Vec<(usize, String)>,
 }
@@ -42,6 +44,9 @@ pub fn wanted(arguments: impl Iterator<Item = OsString>) -> Result<Wanted, Strin
     let short = |(_, line): &(usize, String)| line.len() <= 2;
     if wanted.lines.len() > 1 && wanted.lines.iter().all(short) {
         return Err("each argument is a whole line: put it in quotes".to_string());
+    }
+    if wanted.request.is_some() && wanted.replies.is_empty() {
+        return Err("--request takes a --reply beside it".to_string());
     }
     Ok(wanted)
 }
@@ -102,6 +107,10 @@ impl Wanted {
             "--reply" => {
                 let reply = option.operand(next)?.to_string_lossy().into_owned();
                 self.replies.push(reply);
+            }
+            "--request" => {
+                let request = option.operand(next)?.to_string_lossy().into_owned();
+                self.request = Some(request);
             }
             name => return Err(format!("{} is no option", name)),
         }

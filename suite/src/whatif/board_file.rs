@@ -126,7 +126,8 @@ const ONCE: [&str; 7] = [
 
 // A board in the making.
 struct Draft {
-    setting: Setting,
+    lent: Lent,
+    busy: u64,
     // The lines that may stand once, as far as they were met.
     once: Vec<&'static str>,
     // Bytes for a curve's first blocks: the line, the curve and the bytes.
@@ -158,7 +159,8 @@ impl Draft {
             sums: Vec::new(),
         };
         Draft {
-            setting: Setting { lent, busy: 0 },
+            lent,
+            busy: 0,
             once: Vec::new(),
             curve_bytes: Vec::new(),
             block_lengths: Vec::new(),
@@ -177,7 +179,7 @@ impl Draft {
         };
         self.first(name)?;
         match name {
-            "address" => self.setting.lent.address.own = words.number("the address", 255)?,
+            "address" => self.lent.address.own = words.number("the address", 255)?,
             "multicast" => self.multicast(words)?,
             "variable" => self.variable(words)?,
             "curve" => self.curve(words, line)?,
@@ -185,7 +187,7 @@ impl Draft {
             "sum" => self.sum(words, line)?,
             "function" => self.function(words)?,
             "group" => self.group(words)?,
-            "busy" => self.setting.busy = words.set()?,
+            "busy" => self.busy = words.set()?,
             "values" => self.whole_values = Some(words.bytes()?),
             "blocks" => self.whole_blocks = Some(words.bytes()?),
             "lengths" => self.whole_lengths = Some(words.lengths()?),
@@ -205,7 +207,7 @@ impl Draft {
 
     fn multicast(&mut self, words: &mut Words) -> Result<(), String> {
         match words.bytes()?[..] {
-            [byte] => self.setting.lent.address.multicast = byte,
+            [byte] => self.lent.address.multicast = byte,
             _ => return Err("the multicast byte is one byte in hex".to_string()),
         }
         Ok(())
@@ -231,13 +233,13 @@ impl Draft {
                 bytes.len()
             ));
         }
-        self.setting.lent.variables.push(record);
-        self.setting.lent.values.extend(bytes);
+        self.lent.variables.push(record);
+        self.lent.values.extend(bytes);
         Ok(())
     }
 
     fn curve(&mut self, words: &mut Words, line: usize) -> Result<(), String> {
-        let curves = &mut self.setting.lent.curves;
+        let curves = &mut self.lent.curves;
         let record: [u32; 3] = [
             writable(words)?.into(),
             words.number("the block size", u32::MAX)?,
@@ -293,12 +295,12 @@ impl Draft {
     fn function(&mut self, words: &mut Words) -> Result<(), String> {
         let input: u8 = words.number("the input", 255)?;
         let output: u8 = words.number("the output", 255)?;
-        self.setting.lent.functions.extend([input, output]);
+        self.lent.functions.extend([input, output]);
         Ok(())
     }
 
     fn group(&mut self, words: &mut Words) -> Result<(), String> {
-        let (set, groups) = (words.set()?, &mut self.setting.lent.groups);
+        let (set, groups) = (words.set()?, &mut self.lent.groups);
         // Of more groups than the table has room for, the node sees that they are too many.
         if let Some(place) = groups.sets.get_mut(groups.count as usize) {
             *place = set;
@@ -314,8 +316,8 @@ impl Draft {
                 message: "the line with the address is missing".to_string(),
             });
         }
-        let mut setting = self.setting;
-        let lent = &mut setting.lent;
+        let mut whole = self.lent;
+        let lent = &mut whole;
         lent.refit();
         for (line, number, bytes) in self.curve_bytes {
             let told = put_curve(lent, number, &bytes);
@@ -345,7 +347,7 @@ impl Draft {
         if let Some(sums) = self.whole_sums {
             lent.sums = sums;
         }
-        Ok(setting)
+        Ok(Setting::new(whole, self.busy))
     }
 }
 

@@ -1,9 +1,10 @@
 //! Calls as lines of text: how docs/what-if.cases and whatif's input write them.
+use super::asked::Asked;
 use super::bytes::{bytes, hex};
 use super::HELP;
 use std::str::FromStr;
 
-/// A call of the node.
+/// A call of the node, or of the gateway that asks it.
 #[derive(Clone, Debug, PartialEq, Eq)]
 pub enum Call {
     Packet(Vec<u8>),
@@ -26,7 +27,16 @@ pub enum Call {
         bytes: Vec<u8>,
     },
     Fresh,
+    Ask(Asked),
+    /// A reply to this request.
+    Hear(Asked, Vec<u8>),
+    Forget,
 }
+
+/// The keywords of calls, in the order of the help.
+const CALLS: [&str; 9] = [
+    "packet", "store", "read", "write", "result", "fresh", "ask", "hear", "forget",
+];
 
 /// A line that does something: a call, or the variables that are busy from then on.
 #[derive(Clone, Debug, PartialEq, Eq)]
@@ -36,30 +46,35 @@ pub enum Line {
 }
 
 impl Line {
-    /// The line that this keyword starts, or none if it starts no such line.
-    pub fn of(keyword: &str, rest: &str) -> Result<Option<Line>, String> {
+    /// Whether this keyword starts such a line.
+    pub fn starts(keyword: &str) -> bool {
+        keyword == "busy" || CALLS.contains(&keyword)
+    }
+
+    /// The line that this keyword starts, or none if it starts no such line. What is heard is the reply to what was asked last.
+    pub fn of(keyword: &str, rest: &str, asked: Option<&Asked>) -> Result<Option<Line>, String> {
         let words: Vec<&str> = rest.split_whitespace().collect();
         match keyword {
             "busy" => Ok(Some(Line::Busy(variables(rest)?))),
-            "packet" | "store" | "read" | "write" | "result" | "fresh" => {
-                Ok(Some(Line::Call(call(keyword, &words)?)))
-            }
+            "hear" => Ok(Some(Line::Call(hear(asked, &words)?))),
+            keyword if CALLS.contains(&keyword) => Ok(Some(Line::Call(call(keyword, &words)?))),
             _ => Ok(None),
         }
     }
 
     /// The same, or a packet where only bytes stand.
-    pub fn or_packet(text: &str) -> Result<Line, String> {
+    pub fn or_packet(text: &str, asked: Option<&Asked>) -> Result<Line, String> {
         let text = text.trim();
         let (keyword, rest) = text.split_once(char::is_whitespace).unwrap_or((text, ""));
-        match Line::of(keyword, rest)? {
+        match Line::of(keyword, rest, asked)? {
             Some(line) => Ok(line),
             None if text.starts_with(|letter: char| letter.is_ascii_hexdigit()) => {
                 Ok(Line::Call(Call::Packet(bytes(text)?)))
             }
             None => Err(format!(
-                "{:?} is neither bytes in hex nor packet, store, read, write, result, fresh or busy",
-                keyword
+                "{:?} is neither bytes in hex nor {} or busy",
+                keyword,
+                CALLS.join(", ")
             )),
         }
     }
@@ -100,6 +115,9 @@ impl Call {
                 ("result", rest)
             }
             Call::Fresh => ("fresh", String::new()),
+            Call::Ask(asked) => ("ask", asked.words()),
+            Call::Hear(_, reply) => ("hear", hex(reply)),
+            Call::Forget => ("forget", String::new()),
         }
     }
 }
@@ -153,6 +171,8 @@ fn call(keyword: &str, words: &[&str]) -> Result<Call, String> {
             result(function, *due == "due", *ran == "failed", joined(words)?)
         }
         ("fresh", []) => Ok(Call::Fresh),
+        ("ask", words) => Ok(Call::Ask(Asked::of_words(words)?)),
+        ("forget", []) => Ok(Call::Forget),
         _ => Err(format!("a {} is written so: {}", keyword, form(keyword))),
     }
 }
@@ -163,6 +183,11 @@ fn form(keyword: &str) -> &'static str {
     let line = lines.find(|line| line.split(' ').next() == Some(keyword));
     line.and_then(|line| line.split("  ").next())
         .unwrap_or_default()
+}
+
+fn hear(asked: Option<&Asked>, words: &[&str]) -> Result<Call, String> {
+    let asked = asked.ok_or("a reply is heard to what was asked before it, and nothing was")?;
+    Ok(Call::Hear(asked.clone(), joined(words)?))
 }
 
 fn result(function: &str, due: bool, failed: bool, bytes: Vec<u8>) -> Result<Call, String> {
@@ -177,7 +202,8 @@ fn result(function: &str, due: bool, failed: bool, bytes: Vec<u8>) -> Result<Cal
     })
 }
 
-fn number<T: FromStr>(word: &str) -> Result<T, String> {
+/// The number that a word is.
+pub fn number<T: FromStr>(word: &str) -> Result<T, String> {
     word.parse()
         .map_err(|_| format!("{:?} is no number that can stand here", word))
 }

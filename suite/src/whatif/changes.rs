@@ -1,17 +1,21 @@
-//! What a call changed in values, curves, their blocks' lengths, sums and groups.
+//! What a call changed in values, curves, their blocks' lengths, sums and groups, and in what a gateway knows of them.
 use super::bytes::shown;
-use super::things::{curve, number, set_text, value};
+use super::gateway::known_changes;
+use super::things::{curve, number, set_text, value, Setting};
 use crate::lent::Lent;
 use cruachvel::Groups;
 use std::ops::Range;
 
-/// A line for each variable, block, length, sum and group that is not what it was; one for neighbours whose lengths changed alike.
-pub fn changes(before: &Lent, after: &Lent) -> Vec<String> {
-    let mut lines = values(before, after);
-    lines.extend(blocks(before, after));
-    lines.extend(lengths(before, after));
-    lines.extend(sums(before, after));
-    lines.extend(groups(&before.groups, &after.groups));
+/// A line for each variable, block, length, sum and group that is not what it was, one for neighbours whose lengths changed alike, and one for
+/// each thing that a gateway knows otherwise.
+pub fn changes(before: &Setting, after: &Setting) -> Vec<String> {
+    let (old, new) = (&before.lent, &after.lent);
+    let mut lines = values(old, new);
+    lines.extend(blocks(old, new));
+    lines.extend(lengths(old, new));
+    lines.extend(sums(old, new));
+    lines.extend(group_lines("group", &old.groups, &new.groups));
+    lines.extend(known_changes(before, after));
     lines
 }
 
@@ -105,13 +109,15 @@ fn differing(old: &[u8], new: &[u8]) -> Range<usize> {
     first..last + 1
 }
 
-fn groups(before: &Groups, after: &Groups) -> Vec<String> {
+/// A line for each made group that is not what it was.
+pub fn group_lines(name: &str, before: &Groups, after: &Groups) -> Vec<String> {
     let made =
         |groups: &Groups, place: usize| (place < groups.count as usize).then(|| groups.sets[place]);
     let text = |set: Option<u64>| set.map_or("none".to_string(), set_text);
     let line = |place: usize| {
         let (old, new) = (made(before, place), made(after, place));
-        (old != new).then(|| format!("group {}: {} -> {}", place + 3, text(old), text(new)))
+        let (number, old_text, new_text) = (place + 3, text(old), text(new));
+        (old != new).then(|| format!("{} {}: {} -> {}", name, number, old_text, new_text))
     };
     (0..before.sets.len()).filter_map(line).collect()
 }

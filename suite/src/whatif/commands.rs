@@ -14,6 +14,17 @@ pub enum Field {
 }
 
 impl Field {
+    pub fn name(self) -> &'static str {
+        match self {
+            Field::Variable | Field::VariableRead => "variable",
+            Field::Group => "group",
+            Field::Operation => "operation",
+            Field::Curve => "curve",
+            Field::Block => "block",
+            Field::Function => "function",
+        }
+    }
+
     pub fn width(self) -> usize {
         if self == Field::Block {
             2
@@ -35,7 +46,7 @@ pub enum Rest {
 }
 
 /// Words of a change request, which amends 01.
-#[derive(Debug, PartialEq, Eq)]
+#[derive(Clone, Copy, Debug, PartialEq, Eq)]
 pub struct Amended {
     pub request: &'static str,
     pub words: &'static str,
@@ -47,11 +58,13 @@ impl Amended {
     }
 }
 
-/// A row of 01's table: request, payload and answer in 01's words, with 001's name of the command. In place of a row, a command may have
-/// the words of the change request that adds it, and beside either those of one that amends it.
-#[derive(Debug)]
+/// A row of 01's table: request, payload and answer in 01's words, with 001's name of the command, and the word by which a gateway is told
+/// to ask it. In place of a row, a command may have the words of the change request that adds it, and beside either those of one that
+/// amends it.
+#[derive(Debug, PartialEq, Eq)]
 pub struct Command {
     pub code: u8,
+    pub word: &'static str,
     pub name: &'static str,
     pub payload: &'static str,
     pub answer: &'static str,
@@ -64,6 +77,15 @@ pub struct Command {
 impl Command {
     pub fn of(code: u8) -> Option<&'static Command> {
         COMMANDS.iter().find(|command| command.code == code)
+    }
+
+    /// The codes of its answers, beside those of errors.
+    pub fn answers(&self) -> Vec<u8> {
+        let start = self.answer.get(..2).unwrap_or_default();
+        match u8::from_str_radix(start, 16) {
+            Ok(code) => vec![code],
+            Err(_) => vec![0x51, 0x53],
+        }
     }
 
     /// The least length of the payload: its front, and for 30 one variable.
@@ -95,13 +117,14 @@ impl Command {
 
 const fn row(
     code: u8,
-    name: &'static str,
+    (word, name): (&'static str, &'static str),
     (payload, answer): (&'static str, &'static str),
     front: &'static [Field],
     rest: Rest,
 ) -> Command {
     Command {
         code,
+        word,
         name,
         payload,
         answer,
@@ -115,7 +138,7 @@ const fn row(
 // A command that 2026-02 adds: its payload is a curve.
 const fn of_sums(
     code: u8,
-    name: &'static str,
+    names: (&'static str, &'static str),
     answer: &'static str,
     words: &'static str,
 ) -> Command {
@@ -124,7 +147,7 @@ const fn of_sums(
             request: "2026-02",
             words,
         }),
-        ..row(code, name, ("curve", answer), &[Curve], Nothing)
+        ..row(code, names, ("curve", answer), &[Curve], Nothing)
     }
 }
 
@@ -144,26 +167,26 @@ use Rest::{Data, Input, Mask, Members, Nothing, Value};
 
 #[rustfmt::skip]
 pub const COMMANDS: [Command; 20] = [
-    row(0x00, "query the protocol version", ("none", "01: 02 14 00"), &[], Nothing),
-    row(0x02, "query the list of variables", ("none", "03: a byte per variable, top bit 1 if writable, low seven the size"), &[], Nothing),
-    row(0x04, "query the list of groups", ("none", "05: a byte per group, top bit 1 if writable, low seven the member count"), &[], Nothing),
-    row(0x06, "query a group", ("group", "07: its variables, ascending"), &[Group], Nothing),
-    row(0x08, "query the list of curves", ("none", "09: per curve type (0, 1), block size in two bytes, blocks in two (65,536 as 0)"), &[], Nothing),
-    of_sums(0x0A, "query the checksum of a curve", "0B with 16 bytes", "0A (payload: curve; answer 0B with 16 bytes)"),
-    row(0x0C, "query the list of functions", ("none", "0D: per function, input count in the high four bits, output in the low four"), &[], Nothing),
-    row(0x10, "read a variable", ("variable", "11: value"), &[Variable], Nothing),
-    row(0x12, "read a group", ("group", "13: members' values, ascending"), &[Group], Nothing),
-    row(0x20, "write a variable", ("variable, value", "E0"), &[Variable], Value),
-    row(0x22, "write a group", ("group, members' values", "E0"), &[Group], Value),
-    row(0x24, "binary operation on a variable", ("variable, operation, mask", "E0"), &[Variable, Operation], Mask),
-    row(0x26, "binary operation on a group", ("group, operation, members' masks", "E0"), &[Group, Operation], Mask),
-    row(0x28, "write and read variables", ("variable written, variable read, value", "11: the second's value, after the write"), &[Variable, VariableRead], Value),
-    row(0x30, "create a group", ("variables of a new group", "E0"), &[], Members),
-    row(0x32, "remove all groups", ("none", "E0; groups 3 to 7 are gone, their numbers free again"), &[], Nothing),
-    by_lengths(row(0x40, "request a curve block", ("curve, block in two bytes", "41: curve, block, the block's bytes"), &[Curve, Block], Nothing)),
-    by_lengths(row(0x41, "curve block", ("curve, block in two bytes, data", "E0"), &[Curve, Block], Data)),
-    by_lengths(of_sums(0x42, "recalculate the checksum of a curve", "E0", "42 (payload: curve; answer E0)")),
-    row(0x50, "execute a function", ("function, input", "the function is to be run"), &[Function], Input),
+    row(0x00, ("version", "query the protocol version"), ("none", "01: 02 14 00"), &[], Nothing),
+    row(0x02, ("list-variables", "query the list of variables"), ("none", "03: a byte per variable, top bit 1 if writable, low seven the size"), &[], Nothing),
+    row(0x04, ("list-groups", "query the list of groups"), ("none", "05: a byte per group, top bit 1 if writable, low seven the member count"), &[], Nothing),
+    row(0x06, ("show-group", "query a group"), ("group", "07: its variables, ascending"), &[Group], Nothing),
+    row(0x08, ("list-curves", "query the list of curves"), ("none", "09: per curve type (0, 1), block size in two bytes, blocks in two (65,536 as 0)"), &[], Nothing),
+    of_sums(0x0A, ("sum", "query the checksum of a curve"), "0B with 16 bytes", "0A (payload: curve; answer 0B with 16 bytes)"),
+    row(0x0C, ("list-functions", "query the list of functions"), ("none", "0D: per function, input count in the high four bits, output in the low four"), &[], Nothing),
+    row(0x10, ("read", "read a variable"), ("variable", "11: value"), &[Variable], Nothing),
+    row(0x12, ("group", "read a group"), ("group", "13: members' values, ascending"), &[Group], Nothing),
+    row(0x20, ("write", "write a variable"), ("variable, value", "E0"), &[Variable], Value),
+    row(0x22, ("write-group", "write a group"), ("group, members' values", "E0"), &[Group], Value),
+    row(0x24, ("mask", "binary operation on a variable"), ("variable, operation, mask", "E0"), &[Variable, Operation], Mask),
+    row(0x26, ("mask-group", "binary operation on a group"), ("group, operation, members' masks", "E0"), &[Group, Operation], Mask),
+    row(0x28, ("write-read", "write and read variables"), ("variable written, variable read, value", "11: the second's value, after the write"), &[Variable, VariableRead], Value),
+    row(0x30, ("make-group", "create a group"), ("variables of a new group", "E0"), &[], Members),
+    row(0x32, ("remove-groups", "remove all groups"), ("none", "E0; groups 3 to 7 are gone, their numbers free again"), &[], Nothing),
+    by_lengths(row(0x40, ("block", "request a curve block"), ("curve, block in two bytes", "41: curve, block, the block's bytes"), &[Curve, Block], Nothing)),
+    by_lengths(row(0x41, ("write-block", "curve block"), ("curve, block in two bytes, data", "E0"), &[Curve, Block], Data)),
+    by_lengths(of_sums(0x42, ("renew", "recalculate the checksum of a curve"), "E0", "42 (payload: curve; answer E0)")),
+    row(0x50, ("run", "execute a function"), ("function, input", "the function is to be run"), &[Function], Input),
 ];
 
 /// What a reply's code is called.

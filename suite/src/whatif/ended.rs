@@ -1,11 +1,13 @@
-//! What a call ends in, and the proved node that carries calls out.
-use super::bytes::{hex, shown};
+//! What a call ends in, and the proved node and its asking side, which carry calls out.
+use super::bytes::{counted, hex, shown};
 use super::call::{due_name, Call};
 use super::commands::reply_name;
+use super::gateway;
+use super::heard::Heard;
 use super::packet::Packet;
 use super::Setting;
 use crate::lent::Lent;
-use cruachvel::{Outcome, Ran, Refusal, VariableNumber, MOST_PACKET};
+use cruachvel::{Learned, Outcome, Ran, Refusal, VariableNumber, MOST_PACKET};
 
 /// What a packet or a function's result ended in.
 #[derive(Clone, Debug, PartialEq, Eq)]
@@ -99,6 +101,10 @@ pub enum Came {
     Fresh,
     Number(i128),
     Bytes(Vec<u8>),
+    /// The packet of a request.
+    Sends(Vec<u8>),
+    Heard(Heard),
+    Forgot,
 }
 
 impl Came {
@@ -124,6 +130,9 @@ impl Came {
             Came::Fresh => "all blocks are full, and the sums are worked out".to_string(),
             Came::Number(number) => format!("the number {}", number),
             Came::Bytes(bytes) => format!("the bytes {}", shown(bytes)),
+            Came::Sends(packet) => format!("a packet of {} is sent", counted(packet.len(), "byte")),
+            Came::Heard(heard) => format!("heard: {}", heard.text()),
+            Came::Forgot => "the gateway knows nothing of the node".to_string(),
         }
     }
 
@@ -131,9 +140,11 @@ impl Came {
     pub fn line(&self) -> String {
         let line = match self {
             Came::Ended(ended) => ended.line(),
-            Came::Done | Came::Fresh => "done".to_string(),
+            Came::Done | Came::Fresh | Came::Forgot => "done".to_string(),
             Came::Number(number) => format!("number {}", number),
             Came::Bytes(bytes) => format!("bytes {}", hex(bytes)),
+            Came::Sends(packet) => format!("sends {}", hex(packet)),
+            Came::Heard(heard) => format!("heard {}", heard.line()),
         };
         line.trim_end().to_string()
     }
@@ -142,10 +153,17 @@ impl Came {
 /// What stands in a buffer until it is written.
 pub const FILLING: u8 = 0x5C;
 
-/// The proved node: it carries out a call on what a board lends, with these busy marks.
-pub fn proved(lent: &mut Lent, busy: u64, call: &Call) -> Came {
+/// The proved node and its asking side: the setting is as the call leaves it.
+pub fn proved(setting: &mut Setting, call: &Call) -> Came {
     let mut reply = [FILLING; MOST_PACKET];
+    let (lent, busy) = (&mut setting.lent, setting.busy);
     match call {
+        Call::Ask(asked) => gateway::ask(setting, asked),
+        Call::Hear(asked, reply) => gateway::hear(setting, asked, reply),
+        Call::Forget => {
+            setting.known = Learned::new();
+            Came::Forgot
+        }
         Call::Packet(request) => {
             let ended = Ended::of(lent.packet(busy, request, &mut reply));
             Came::sent(ended, &reply)
@@ -218,11 +236,6 @@ fn proved_write(
 }
 
 impl Setting {
-    /// The proved node's call; the setting is as it leaves it.
-    pub fn call(&mut self, call: &Call) -> Came {
-        proved(&mut self.lent, self.busy, call)
-    }
-
     /// What a packet would end in, with nothing changed.
     pub fn would(&self, request: &[u8]) -> Ended {
         let mut lent = self.lent.clone();

@@ -1,11 +1,13 @@
 //! A call explained: what came of it, which rule decided, and what changed.
+use super::asked::Asked;
 use super::bytes::{checksum, summed};
 use super::call::{due_name, Call};
 use super::changes::changes;
 use super::commands::Field;
-use super::ended::{Came, Ended};
+use super::ended::{proved, Came, Ended};
+use super::gateway::would_hear;
 use super::packet::Packet;
-use super::sheet::Sheet;
+use super::sheet::{Part, Sheet};
 use super::things::function;
 use super::{reply, request, rule_of, Setting};
 use cruachvel::Refusal;
@@ -13,7 +15,7 @@ use cruachvel::Refusal;
 /// Carries out a call and says what came of it and why.
 pub fn explain(setting: &mut Setting, call: &Call) -> Sheet {
     let before = setting.clone();
-    let came = setting.call(call);
+    let came = proved(setting, call);
     let rule = rule_of(call, &came, &before);
     let mut sheet = Sheet::default();
     put_call(&mut sheet, call, &before);
@@ -24,18 +26,38 @@ pub fn explain(setting: &mut Setting, call: &Call) -> Sheet {
     if let Some(hint) = hint(&came, call, &before, setting) {
         sheet.text("hint", hint);
     }
-    if let Came::Ended(Ended::Reply(bytes)) = &came {
-        let parts = reply::parts(Packet(bytes), call, &before);
-        sheet.packet("reply", bytes, parts);
+    match &came {
+        Came::Ended(Ended::Reply(bytes)) => {
+            let parts = reply_parts(Packet(bytes), call, &before);
+            sheet.packet("reply", bytes, parts);
+        }
+        Came::Sends(bytes) => {
+            let parts = request::parts(Packet(bytes), &before);
+            sheet.packet("sends", bytes, parts);
+        }
+        _ => (),
     }
-    sheet.list("changed", changes(&before.lent, &setting.lent));
+    sheet.list("changed", changes(&before, setting));
     sheet
+}
+
+// The node's reply, as a gateway hears it that knows the board as it was.
+fn reply_parts(reply: Packet, call: &Call, before: &Setting) -> Vec<Part> {
+    let asked = match call {
+        Call::Packet(request) => Asked::of_packet(Packet(request)),
+        _ => None,
+    };
+    let before = before.clone().learned();
+    let heard = asked.and_then(|asked| reply::heard_in(reply, asked, &before));
+    reply::parts(reply, heard.as_ref(), &before)
 }
 
 fn put_call(sheet: &mut Sheet, call: &Call, before: &Setting) {
     let parts = request::call_parts(call, before);
     match (call, call.words()) {
-        (Call::Packet(request), (keyword, _)) => sheet.packet(keyword, request, parts),
+        (Call::Packet(bytes) | Call::Hear(_, bytes), (keyword, _)) => {
+            sheet.packet(keyword, bytes, parts)
+        }
         (_, (keyword, words)) => sheet.words(keyword, words, parts),
     }
 }
@@ -44,6 +66,9 @@ fn hint(came: &Came, call: &Call, before: &Setting, after: &Setting) -> Option<S
     match (came, call) {
         (Came::Ended(Ended::Refused(Refusal::Checksum)), Call::Packet(request)) => {
             Some(checksum_hint(request, before))
+        }
+        (Came::Ended(Ended::Refused(Refusal::Checksum)), Call::Hear(asked, reply)) => {
+            heard_hint(asked, reply, before)
         }
         (Came::Ended(Ended::Run { function, due, .. }), _) => result_hint(*function, *due, before),
         (Came::Ended(ended), Call::Packet(request)) => stale_hint(ended, Packet(request), after),
@@ -66,6 +91,19 @@ fn checksum_hint(request: &[u8], before: &Setting) -> String {
         checksum(message),
         before.would(&summed(message)).text()
     )
+}
+
+/// What a reply would be heard as with the right checksum.
+pub fn heard_hint(asked: &Asked, reply: &[u8], before: &Setting) -> Option<String> {
+    let (_, message) = reply.split_last()?;
+    let mended = summed(message);
+    let came = Came::of(would_hear(before, asked, &mended), Came::Heard);
+    let right = checksum(message);
+    Some(format!(
+        "with {:02X} as its last byte the outcome would be: {}",
+        right,
+        came.text()
+    ))
 }
 
 // That a sum which was read, or whose curve was written, is not of what the curve holds now.

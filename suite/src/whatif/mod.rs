@@ -1,8 +1,10 @@
-//! What does the node do if: a packet or another call on a board, what the proved node makes of it, and which of 01's rules decided it.
+//! What does the node do if: a packet or another call on a board, what the proved node makes of it, and which of 01's rules decided it; and what
+//! a gateway that asks the board sends and hears.
 //!
-//! Outcome, reply, new state and the numbers that bytes mean are all the proved code's. Only the words are added here.
+//! Outcome, reply, new state, what is heard or refused and the numbers that bytes mean are all the proved code's. Only the words are added here.
 #[cfg(not(target_arch = "wasm32"))]
 pub mod arguments;
+pub mod asked;
 pub mod board_file;
 pub mod bytes;
 pub mod call;
@@ -11,6 +13,8 @@ pub mod changes;
 pub mod commands;
 pub mod ended;
 mod explain;
+pub mod gateway;
+pub mod heard;
 pub mod json;
 pub mod packet;
 pub mod refusals;
@@ -22,6 +26,7 @@ mod sheet;
 pub mod steps;
 pub mod table;
 pub mod things;
+mod unfit;
 
 pub use captured::captured;
 pub use ended::Ended;

@@ -1,14 +1,15 @@
-//! 01's local refusals: their conditions, and why a call meets one.
+//! The local refusals of 01 and of its change requests: their conditions, and why a call meets one.
 use super::bytes::counted;
 use super::call::{sign_name, Call};
 use super::commands::Amended;
 use super::packet::Packet;
 use super::table;
 use super::things::{function, is_signed, kind_name, missing, Setting};
+use super::unfit;
 use crate::lent::members;
 use cruachvel::{Kind, Refusal, Variable};
 
-/// The condition of a refusal in 01's words. The last two are the asking side's alone, and no call meets them.
+/// The condition of a refusal in 01's words; of the last two, which 01 doesn't have, in those of a change request.
 pub fn condition(refusal: Refusal) -> &'static str {
     match refusal {
         Refusal::BoardUnusable => "a record, store length or group breaks the table above",
@@ -23,10 +24,8 @@ pub fn condition(refusal: Refusal) -> &'static str {
         Refusal::WrongByteCount => "value or buffer is not the variable's size",
         Refusal::WrongKind => "plain, or signed asked of unsigned, or the reverse",
         Refusal::DoesNotFit => "number outside the variable's range",
-        Refusal::ReplyUnfit => "the asking side's: the reply doesn't fit the request",
-        Refusal::RequestUnwritable => {
-            "the asking side's: ID over 255, block over 65,535 or payload over 4,099 bytes"
-        }
+        Refusal::ReplyUnfit => REPLY_UNFIT.words,
+        Refusal::RequestUnwritable => REQUEST_UNWRITABLE.words,
     }
 }
 
@@ -35,8 +34,29 @@ const LENGTHS_AND_SUMS: Amended = Amended {
     words: "A length out of range, lengths not one per block or sums not one per curve make the board unusable.",
 };
 
+const BAD_DESTINATION: Amended = Amended {
+    request: "2026-04",
+    words: "2 is a destination not 1 to 31 or 248 to 255",
+};
+const REPLY_UNFIT: Amended = Amended {
+    request: "2026-04",
+    words: "A reply fits if its request wasn't multicast, its destination is 0 and it is either E1 to E8 with no payload, or 01's answer to that request: of the size that the learned table gives (41: same curve and block, 1 to the block size of bytes; lists: whole records within 01's limits, 07 ascending).",
+};
+const REQUEST_UNWRITABLE: Amended = Amended {
+    request: "2026-04",
+    words:
+        "14 request can't be written (ID over 255, block over 65,535 or payload over 4,099 bytes)",
+};
+
 /// The words of a change request by which a refusal is given to a call, if it isn't by 01's own.
 pub fn amended(refusal: Refusal, call: &Call, setting: &Setting) -> Option<&'static Amended> {
+    match (refusal, call) {
+        (Refusal::BadAddress, Call::Ask(_) | Call::Hear(..)) => return Some(&BAD_DESTINATION),
+        (Refusal::ReplyUnfit, _) => return Some(&REPLY_UNFIT),
+        (Refusal::RequestUnwritable, _) => return Some(&REQUEST_UNWRITABLE),
+        (_, Call::Ask(_) | Call::Hear(..)) => return None,
+        _ => (),
+    }
     let breaks = match (refusal, call) {
         (Refusal::BoardUnusable, Call::Fresh) => {
             table::breaks_amendment(&table::filled(&setting.lent))
@@ -48,8 +68,14 @@ pub fn amended(refusal: Refusal, call: &Call, setting: &Setting) -> Option<&'sta
 }
 
 /// All words of change requests that give a refusal.
-pub fn amendments() -> [&'static str; 1] {
-    [LENGTHS_AND_SUMS.words]
+pub fn amendments() -> [&'static str; 4] {
+    let all = [
+        LENGTHS_AND_SUMS,
+        BAD_DESTINATION,
+        REPLY_UNFIT,
+        REQUEST_UNWRITABLE,
+    ];
+    all.map(|amended| amended.words)
 }
 
 /// Why a refusal's condition holds for a packet, if it does. Other refusals are not looked at.
@@ -97,6 +123,8 @@ pub fn call_reason(refusal: Refusal, call: &Call, setting: &Setting) -> Option<S
     let lent = &setting.lent;
     match (refusal, call) {
         (_, Call::Packet(request)) => reason(refusal, Packet(request), setting),
+        (_, Call::Ask(asked)) => unfit::ask_reason(refusal, asked),
+        (_, Call::Hear(asked, reply)) => unfit::hear_reason(refusal, asked, Packet(reply), setting),
         (Refusal::BoardUnusable, Call::Result { .. } | Call::Store(..)) => table::broken(lent),
         (Refusal::BoardUnusable, Call::Fresh) => table::broken(&table::filled(lent)),
         (Refusal::BoardUnusable, _) => table::variables(&lent.variables),
@@ -120,6 +148,7 @@ pub fn call_reason(refusal: Refusal, call: &Call, setting: &Setting) -> Option<S
 fn variable_reason(refusal: Refusal, call: &Call, setting: &Setting) -> Option<String> {
     let (number, bytes, signed) = match call {
         Call::Packet(_) | Call::Result { .. } | Call::Fresh => return None,
+        Call::Ask(_) | Call::Hear(..) | Call::Forget => return None,
         Call::Store(variable, bytes) => (*variable, bytes.len(), None),
         Call::Read {
             variable,

@@ -1,52 +1,33 @@
 //! A reply decoded: each field with what it means for its request, or for any that it can answer.
-use super::bytes::counted;
-use super::call::Call;
+use super::asked::Asked;
+use super::bytes::{counted, summed};
 use super::commands::{reply_name, Field};
+use super::gateway::would_hear;
+use super::heard::{Heard, Slot, Value};
 use super::packet::Packet;
-use super::request::{checksum_part, field_text, numbers_part, size_part, values_parts};
+use super::request::{checksum_part, field_text, numbers_part, size_part};
 use super::sheet::Part;
-use super::things::{self, curve_text, filled_text, function, function_text, group, group_text};
-use super::things::{sum_text, type_name, Curve, Setting};
+use super::things::{self, curve_text, filled_text, function_text, group, group_text};
+use super::things::{kind_name, sum_text, type_name, Curve, Setting};
 use crate::lent::Lent;
-use cruachvel::{md5, SUM_SIZE};
+use cruachvel::{md5, Function, ListedGroup, ListedVariable, Record, SUM_SIZE};
 
-/// The parts of the reply to a call.
-pub fn parts(reply: Packet, call: &Call, setting: &Setting) -> Vec<Part> {
+/// The parts of a reply, as its request hears it; where that is not known or doesn't, as far as its bytes go.
+pub fn parts(reply: Packet, heard: Option<&(Asked, Heard)>, setting: &Setting) -> Vec<Part> {
+    let found = heard.map(|(asked, heard)| asked_parts(asked, heard, &setting.lent));
+    with_payload(reply, found.unwrap_or_default(), &setting.lent)
+}
+
+/// The same as each of these requests hears it.
+pub fn likely_parts(reply: Packet, heard: &[(Asked, Heard)], setting: &Setting) -> Vec<Part> {
     let lent = &setting.lent;
-    let set = match call {
-        Call::Packet(request) => read(Packet(request), lent),
-        _ => None,
-    };
-    let payload = reply.payload();
-    let found = match (reply.code(), set, call) {
-        (Some(0x11 | 0x13), Some(set), _) => Some(values_parts("value", set, payload, lent)),
-        (Some(0x0B), _, Call::Packet(request)) => sum_parts(payload, Packet(request), lent),
-        _ => None,
-    };
-    with_payload(reply, found, lent)
+    let found = heard
+        .iter()
+        .flat_map(|(asked, heard)| likely(asked, heard, lent));
+    with_payload(reply, found.collect(), lent)
 }
 
-// The sum that a request asked for.
-fn sum_parts(payload: &[u8], request: Packet, lent: &Lent) -> Option<Vec<Part>> {
-    let number = request.field(Field::Curve)?;
-    let meaning = sum_text(number, lent.is_stale(number));
-    Some(vec![Part::new("sum", payload, meaning)])
-}
-
-/// The parts of a reply to a request that is not known: all values that are as long as what it has.
-pub fn likely_parts(reply: Packet, lent: &Lent) -> Vec<Part> {
-    let likely = match reply.code() {
-        Some(0x11) => variables(reply.payload(), lent),
-        Some(0x13) => groups(reply.payload(), lent),
-        Some(0x0B) => sums(reply.payload(), lent),
-        Some(0x51) => functions(reply.payload(), lent),
-        _ => Vec::new(),
-    };
-    let found = (!likely.is_empty()).then(|| likely);
-    with_payload(reply, found, lent)
-}
-
-fn with_payload(reply: Packet, found: Option<Vec<Part>>, lent: &Lent) -> Vec<Part> {
+fn with_payload(reply: Packet, found: Vec<Part>, lent: &Lent) -> Vec<Part> {
     let mut parts = Vec::new();
     if let Some(destination) = reply.destination() {
         let meaning = match destination {
@@ -58,55 +39,71 @@ fn with_payload(reply: Packet, found: Option<Vec<Part>>, lent: &Lent) -> Vec<Par
     if let Some(code) = reply.code() {
         parts.push(Part::new("command", &[code], reply_name(code)));
         parts.extend(size_part(reply));
-        parts.extend(found.unwrap_or_else(|| payload_parts(code, reply.payload(), lent)));
+        parts.extend(match found.is_empty() {
+            true => payload_parts(code, reply.payload(), lent),
+            false => found,
+        });
     }
     parts.extend(checksum_part(reply));
     parts
 }
 
-// The payload as each variable that has so many bytes.
-fn variables(payload: &[u8], lent: &Lent) -> Vec<Part> {
-    let fits = |number: &usize| usize::from(lent.variables[*number].size) == payload.len();
-    let numbers = (0..lent.variables.len().min(64)).filter(fits);
-    numbers
-        .flat_map(|number| values_parts("value", 1 << number, payload, lent))
-        .collect()
+/// What the proved side hears in a reply's message to a request, if it fits: its destination and its checksum are looked past.
+pub fn heard_in(reply: Packet, asked: Asked, setting: &Setting) -> Option<(Asked, Heard)> {
+    let twin = summed(&[&[0], reply.message()].concat());
+    let heard = would_hear(setting, &asked, &twin).ok()?;
+    Some((asked, heard))
 }
 
-// The payload as each group whose values have so many bytes.
-fn groups(payload: &[u8], lent: &Lent) -> Vec<Part> {
-    let mut parts = Vec::new();
-    for number in 0..lent.group_sets(&lent.groups).len() {
-        match group(lent, number) {
-            Some(group) if lent.set_bytes(group.set) == payload.len() => {
-                let text = group_text(group);
-                parts.push(Part::said("if group", number.to_string(), text));
-                parts.extend(values_parts("value", group.set, payload, lent));
-            }
-            _ => (),
+// What its request hears in a payload, where that says more than the bytes.
+fn asked_parts(asked: &Asked, heard: &Heard, lent: &Lent) -> Vec<Part> {
+    match heard {
+        Heard::Values(values) => values.iter().map(|value| value_part(value, lent)).collect(),
+        Heard::Sum(sum) => {
+            let number = asked.number(Field::Curve).unwrap_or_default();
+            let stale = md5(&lent.curve_bytes(number)).as_slice() != sum;
+            vec![Part::new("sum", sum, sum_text(number, stale))]
         }
+        Heard::Output(output) => {
+            let number = asked.number(Field::Function).unwrap_or_default();
+            let meaning = field_text(Field::Function, number, lent);
+            vec![Part::new("output", output, meaning)]
+        }
+        _ => Vec::new(),
     }
-    parts
 }
 
-// The payload as the sum of each curve that holds what it is of.
-fn sums(payload: &[u8], lent: &Lent) -> Vec<Part> {
-    let fits = |number: &usize| md5(&lent.curve_bytes(*number)) == payload;
-    let numbers = (0..lent.curves.len() / 3).filter(fits);
-    let part = |number: usize| Part::new("sum", payload, sum_text(number, false));
-    numbers.map(part).collect()
+// The same where others might have been asked too: each group is named, a sum is told as that of each curve that holds what it is of, and
+// what 28 reads is told as that of 10.
+fn likely(asked: &Asked, heard: &Heard, lent: &Lent) -> Vec<Part> {
+    let parts = asked_parts(asked, heard, lent);
+    match (asked.command().code, heard) {
+        (0x28, _) => Vec::new(),
+        (0x12, Heard::Values(_)) => {
+            let number = asked.number(Field::Group).unwrap_or_default();
+            let text = group(lent, number).map_or(String::new(), group_text);
+            let named = Part::said("if group", number.to_string(), text);
+            [named].into_iter().chain(parts).collect()
+        }
+        (_, Heard::Sum(sum)) => {
+            let number = asked.number(Field::Curve).unwrap_or_default();
+            match md5(&lent.curve_bytes(number)).as_slice() == sum {
+                true => parts,
+                false => Vec::new(),
+            }
+        }
+        _ => parts,
+    }
 }
 
-// The payload as the output of each function that gives so many bytes.
-fn functions(payload: &[u8], lent: &Lent) -> Vec<Part> {
-    let fits =
-        |number: &usize| function(lent, *number).map(|(_, output)| output) == Some(payload.len());
-    let numbers = (0..lent.functions.len() / 2).filter(fits);
-    let part = |number: usize| {
-        let meaning = field_text(Field::Function, number, lent);
-        Part::new("output", payload, meaning)
+fn value_part(value: &Value, lent: &Lent) -> Part {
+    let kind = lent.variables.get(value.variable).map(|record| record.kind);
+    let meaning = match value.number {
+        Some(number) => format!("means {}", number),
+        None => kind.map_or(String::new(), kind_name),
     };
-    numbers.map(part).collect()
+    let name = format!("value of {}", value.variable);
+    Part::new(name, &value.bytes, meaning)
 }
 
 fn payload_parts(code: u8, payload: &[u8], lent: &Lent) -> Vec<Part> {
@@ -117,16 +114,22 @@ fn payload_parts(code: u8, payload: &[u8], lent: &Lent) -> Vec<Part> {
             let version = format!("{}.{}.{}", version, sub, revision);
             vec![Part::new("version", payload, version)]
         }
-        (0x03, _) => list(payload, 1, "variable", |record| sized(record[0], "byte")),
-        (0x05, _) => list(payload, 1, "group", |record| sized(record[0], "variable")),
+        (0x03, _) => list(payload, "variable", |record: ListedVariable| {
+            slot_text(Slot::from(record), "byte")
+        }),
+        (0x05, _) => list(payload, "group", |record: ListedGroup| {
+            slot_text(Slot::from(record), "variable")
+        }),
         (0x07, _) => vec![numbers_part(payload)],
-        (0x09, _) => list(payload, 5, "curve", curve_record),
+        (0x09, _) => list(payload, "curve", |record: cruachvel::Curve| {
+            curve_text(Curve::from(record))
+        }),
         (0x0B, _) if payload.len() == SUM_SIZE => {
             vec![Part::new("sum", payload, "of what no curve holds now")]
         }
         (0x0B, _) => whole("sum"),
-        (0x0D, _) => list(payload, 1, "function", |record| {
-            function_text((usize::from(record[0] >> 4), usize::from(record[0] & 15)))
+        (0x0D, _) => list(payload, "function", |record: Function| {
+            function_text((record.input.into(), record.output.into()))
         }),
         (0x11 | 0x13, _) => whole("value"),
         (0x41, [curve, high, low, data @ ..]) => {
@@ -145,12 +148,14 @@ fn payload_parts(code: u8, payload: &[u8], lent: &Lent) -> Vec<Part> {
     }
 }
 
-// Records of so many bytes each, numbered from 0; what is left over is shown too.
-fn list(payload: &[u8], width: usize, name: &str, meaning: impl Fn(&[u8]) -> String) -> Vec<Part> {
-    let records = payload.chunks_exact(width);
+// Records, numbered from 0; what is left over is shown too.
+fn list<R: Record>(payload: &[u8], name: &str, meaning: impl Fn(R) -> String) -> Vec<Part> {
+    let records = payload.chunks_exact(R::BYTES);
     let left = records.remainder();
-    let part =
-        |(number, record)| Part::new(format!("{} {}", name, number), record, meaning(record));
+    let part = |(number, record)| {
+        let meaning = meaning(R::of(record));
+        Part::new(format!("{} {}", name, number), record, meaning)
+    };
     let mut parts: Vec<Part> = records.enumerate().map(part).collect();
     if !left.is_empty() {
         parts.push(Part::new("cut off", left, ""));
@@ -158,31 +163,7 @@ fn list(payload: &[u8], width: usize, name: &str, meaning: impl Fn(&[u8]) -> Str
     parts
 }
 
-fn sized(byte: u8, thing: &str) -> String {
-    let (writable, count) = (byte >> 7 == 1, usize::from(byte & 0x7F));
-    format!("{}, {}", type_name(writable), counted(count, thing))
-}
-
-fn curve_record(record: &[u8]) -> String {
-    let number = |place: usize| u16::from_be_bytes([record[place], record[place + 1]]);
-    let blocks = match number(3) {
-        0 => 65536,
-        blocks => usize::from(blocks),
-    };
-    curve_text(Curve {
-        writable: record[0] == 1,
-        size: number(1).into(),
-        blocks,
-    })
-}
-
-// The variables whose values a request asks for.
-fn read(request: Packet, lent: &Lent) -> Option<u64> {
-    let variable = request
-        .field(Field::VariableRead)
-        .or_else(|| request.field(Field::Variable));
-    match variable {
-        Some(number) => 1u64.checked_shl(number as u32),
-        None => group(lent, request.field(Field::Group)?).map(|group| group.set),
-    }
+fn slot_text(slot: Slot, thing: &str) -> String {
+    let count = counted(slot.count, thing);
+    format!("{}, {}", type_name(slot.writable), count)
 }

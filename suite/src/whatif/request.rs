@@ -1,9 +1,11 @@
 //! A request decoded, or another call: each field with what it means on this board.
+use super::asked::Asked;
 use super::bytes::{counted, grouped};
 use super::call::{due_name, sign_name, Call};
 use super::commands::{operation_name, Command, Field, Rest};
 use super::ended::due_text;
 use super::packet::Packet;
+use super::reply;
 use super::sheet::Part;
 use super::things::{
     block_text, function, function_text, group, group_text, kind_name, lent_curve_text, listed,
@@ -48,7 +50,46 @@ pub fn call_parts(call: &Call, setting: &Setting) -> Vec<Part> {
             ran_part(*failed, bytes),
         ],
         Call::Fresh => curve_parts(lent),
+        Call::Ask(asked) => asked_parts(asked, setting),
+        Call::Hear(asked, bytes) => {
+            let reply = Packet(bytes);
+            let heard = reply::heard_in(reply, asked.clone(), setting);
+            reply::parts(reply, heard.as_ref(), setting)
+        }
+        Call::Forget => Vec::new(),
     }
+}
+
+// What a gateway is told to ask.
+fn asked_parts(asked: &Asked, setting: &Setting) -> Vec<Part> {
+    let (lent, command) = (&setting.lent, asked.command());
+    let destination = asked.destination();
+    let meaning = destination_text(destination, lent.address);
+    let code = format!("{:02X}", command.code);
+    let mut parts = vec![
+        Part::said("destination", destination.to_string(), meaning),
+        Part::said("command", code, command.name),
+    ];
+    let curve = asked.number(Field::Curve);
+    for field in command.front {
+        let number = asked.number(*field).unwrap_or_default();
+        let meaning = match (field, curve) {
+            (Field::Block, Some(curve)) => block_text(lent, curve, number),
+            _ => field_text(*field, number, lent),
+        };
+        let word = match field {
+            Field::Operation => format!("{:02X}", number),
+            _ => number.to_string(),
+        };
+        parts.push(Part::said(field.name(), word, meaning));
+    }
+    let carried = counted(asked.bytes().len(), "byte");
+    parts.extend(match command.rest {
+        Rest::Nothing => None,
+        Rest::Members => Some(numbers_part(asked.bytes())),
+        _ => Some(Part::new(rest_name(command.rest), asked.bytes(), carried)),
+    });
+    parts
 }
 
 fn ran_part(failed: bool, bytes: &[u8]) -> Part {
@@ -142,21 +183,13 @@ fn payload_parts(request: Packet, setting: &Setting) -> Vec<Part> {
 }
 
 fn field_part(field: Field, bytes: &[u8], request: Packet, lent: &Lent) -> Part {
-    let name = match field {
-        Field::Variable | Field::VariableRead => "variable",
-        Field::Group => "group",
-        Field::Operation => "operation",
-        Field::Curve => "curve",
-        Field::Block => "block",
-        Field::Function => "function",
-    };
     let meaning = match (request.field(field), request.field(Field::Curve)) {
         (Some(block), Some(curve)) if field == Field::Block => block_text(lent, curve, block),
         (Some(value), _) => field_text(field, value, lent),
         (None, _) if bytes.is_empty() => "missing".to_string(),
         (None, _) => "cut off".to_string(),
     };
-    Part::new(name, bytes, meaning)
+    Part::new(field.name(), bytes, meaning)
 }
 
 /// A number that a payload has in place of a field, in words.
@@ -183,20 +216,29 @@ pub fn field_text(field: Field, value: usize, lent: &Lent) -> String {
 }
 
 fn rest_parts(command: &Command, rest: &[u8], request: Packet, lent: &Lent) -> Vec<Part> {
-    let word = match command.rest {
+    match command.rest {
         Rest::Nothing if rest.is_empty() => return Vec::new(),
-        Rest::Nothing => "too much",
-        Rest::Value => "value",
-        Rest::Mask => "mask",
-        Rest::Data => "data",
-        Rest::Input => "input",
         Rest::Members => return vec![numbers_part(rest)],
-    };
+        _ => (),
+    }
+    let word = rest_name(command.rest);
     match written(request, lent) {
         Some(set) if matches!(command.rest, Rest::Value | Rest::Mask) => {
             values_parts(word, set, rest, lent)
         }
         _ => vec![Part::new(word, rest, counted(rest.len(), "byte"))],
+    }
+}
+
+// What follows the front is called so.
+fn rest_name(rest: Rest) -> &'static str {
+    match rest {
+        Rest::Nothing => "too much",
+        Rest::Value => "value",
+        Rest::Mask => "mask",
+        Rest::Members => "variables",
+        Rest::Data => "data",
+        Rest::Input => "input",
     }
 }
 

@@ -1,8 +1,10 @@
-//! The rule of 01 that decided a call.
+//! The rule of 01, or of a change request, that decided a call.
+use super::asked::Asked;
 use super::bytes::summed;
 use super::call::Call;
-use super::commands::{Amended, Command, COMMANDS};
+use super::commands::{Amended, Command, Rest, COMMANDS};
 use super::ended::{Came, Ended};
+use super::heard::Heard;
 use super::packet::Packet;
 use super::refusals;
 use super::steps::{step_of, Step, STEPS};
@@ -20,8 +22,8 @@ pub enum Rule {
     Row(&'static Command),
     /// No refusal: what 01 says of such a call.
     Sentence(&'static str),
-    /// No refusal: what change requests say of such a call.
-    Amended(&'static [Amended]),
+    /// No refusal: what change requests say of such a call, and the row of the command that is asked or answered.
+    Amended(&'static [Amended], Option<&'static Command>),
     /// A multicast packet: what its message would have been answered with, and by which rule.
     Multicast(Ended, Box<Rule>),
     /// None that is known to give this outcome for these bytes.
@@ -51,8 +53,29 @@ const FRESH: [Amended; 2] = [
         words: "Each block gets a length of its own, 1 to the block size, full on a fresh board.",
     },
 ];
+const ASKED: [Amended; 1] = [of_asking(
+    "writes any request of 01's table, 0A and 42 too, from its meaning",
+)];
+const ASKED_SORTED: [Amended; 2] = [ASKED[0], of_asking("A new group's IDs are sorted first.")];
+const HEARD: [Amended; 1] = [of_asking(
+    "each answer to such a request must be read as what the board holds or as the named error",
+)];
+const HEARD_VALUES: [Amended; 2] = [
+    HEARD[0],
+    of_asking("Kinds don't travel on the wire: the gateway supplies them, and its numbers follow 01's reading rule."),
+];
+const LEARNED: [Amended; 1] = [of_asking(
+    "learns a node's variables, groups, curves and functions from the lists",
+)];
 pub const BUSY: &str =
     "Busy marks, bit n of a 64-bit number for variable n (higher bits count for nothing), come from the board with each packet.";
+
+const fn of_asking(words: &'static str) -> Amended {
+    Amended {
+        request: "2026-04",
+        words,
+    }
+}
 
 impl Rule {
     pub fn lines(&self) -> Vec<String> {
@@ -67,8 +90,9 @@ impl Rule {
             }
             Rule::Step(step, code, reason) => vec![step.text(*code), reason.clone()],
             Rule::Sentence(sentence) => vec![format!("no refusal; \"{}\"", sentence)],
-            Rule::Amended(all) => {
-                let texts: Vec<String> = all.iter().map(Amended::text).collect();
+            Rule::Amended(all, row) => {
+                let mut texts: Vec<String> = all.iter().map(Amended::text).collect();
+                texts.extend(row.map(Command::text));
                 vec![format!("no refusal; {}", texts.join("; "))]
             }
             Rule::Row(command) => vec![format!(
@@ -116,15 +140,20 @@ pub fn quotes() -> Vec<String> {
             .into_iter()
             .chain(amended.map(str::to_string))
     });
-    // 1 to 12; the others are the asking side's.
+    // 1 to 12; of the others a change request speaks.
     let conditions = Refusal::ALL[..12].iter().map(|refusal| {
         let (number, condition) = (refusal.number(), refusals::condition(*refusal));
         format!("| {} | {} | {} |", number, refusal, condition)
     });
     let all = steps.chain(rows).chain(conditions);
     let sentences = [MULTICAST, STORE, RESULT, SIGNED, UNSIGNED, WAY_BACK, BUSY];
-    let amendments = FRESH.iter().map(|amended| amended.words);
-    let others = amendments.chain(refusals::amendments()).chain(sentences);
+    let asking = [&ASKED_SORTED[..], &HEARD_VALUES, &LEARNED].concat();
+    let amendments = FRESH.iter().chain(&asking).map(|amended| amended.words);
+    let amendments: Vec<&str> = amendments.collect();
+    let others = amendments
+        .into_iter()
+        .chain(refusals::amendments())
+        .chain(sentences);
     all.chain(others.map(str::to_string)).collect()
 }
 
@@ -133,6 +162,7 @@ pub fn rule_of(call: &Call, came: &Came, before: &Setting) -> Rule {
     match (call, came) {
         (Call::Packet(request), Came::Ended(ended)) => rule(ended, Packet(request), before),
         (_, Came::Ended(Ended::Refused(refusal))) => refused(*refusal, call, before),
+        (Call::Hear(asked, _), Came::Heard(heard)) => heard_rule(asked, heard),
         _ => sentence(call),
     }
 }
@@ -143,11 +173,31 @@ fn refused(refusal: Refusal, call: &Call, before: &Setting) -> Rule {
         .map_or(Rule::None, |reason| Rule::Refusal(refusal, amended, reason))
 }
 
+fn heard_rule(asked: &Asked, heard: &Heard) -> Rule {
+    let row = Some(asked.command());
+    match heard {
+        Heard::Error(_) => Rule::Amended(&HEARD, None),
+        Heard::Values(_) => Rule::Amended(&HEARD_VALUES, row),
+        Heard::Variables(_) | Heard::Groups(_) | Heard::Members(_) => Rule::Amended(&LEARNED, row),
+        Heard::Curves(_) | Heard::Functions(_) => Rule::Amended(&LEARNED, row),
+        _ => Rule::Amended(&HEARD, row),
+    }
+}
+
 // What 01 says of a call that is not refused.
 fn sentence(call: &Call) -> Rule {
     Rule::Sentence(match call {
-        Call::Packet(_) => return Rule::None,
-        Call::Fresh => return Rule::Amended(&FRESH),
+        Call::Packet(_) | Call::Hear(..) => return Rule::None,
+        Call::Fresh => return Rule::Amended(&FRESH, None),
+        Call::Forget => return Rule::Amended(&LEARNED, None),
+        Call::Ask(asked) => {
+            let command = asked.command();
+            let words: &[Amended] = match command.rest {
+                Rest::Members => &ASKED_SORTED,
+                _ => &ASKED,
+            };
+            return Rule::Amended(words, Some(command));
+        }
         Call::Store(..) => STORE,
         Call::Result { .. } => RESULT,
         Call::Read { signed: true, .. } => SIGNED,

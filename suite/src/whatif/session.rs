@@ -1,4 +1,5 @@
 //! Lines that are run one after the other on the same board.
+use super::asked::Asked;
 use super::bytes::summed;
 use super::call::{Call, Line};
 use super::packet::Packet;
@@ -13,15 +14,31 @@ use crate::lent::{all_declared, members};
 pub struct Session {
     pub setting: Setting,
     pub sum: bool,
+    // What the gateway asked last.
+    asked: Option<Asked>,
 }
 
 impl Session {
+    /// Starts on this board.
+    pub fn new(setting: Setting) -> Session {
+        Session {
+            setting,
+            sum: false,
+            asked: None,
+        }
+    }
+
     /// Runs a line and explains it; else what is wrong with the line.
     pub fn tell(&mut self, text: &str) -> Result<Sheet, String> {
-        Ok(match Line::or_packet(text)? {
+        Ok(match Line::or_packet(text, self.asked.as_ref())? {
             Line::Busy(marks) => self.busy(marks),
             Line::Call(Call::Packet(given)) if self.sum => self.summed(&given),
-            Line::Call(call) => explain(&mut self.setting, &call),
+            Line::Call(call) => {
+                if let Call::Ask(asked) = &call {
+                    self.asked = Some(asked.clone());
+                }
+                explain(&mut self.setting, &call)
+            }
         })
     }
 
@@ -48,7 +65,10 @@ impl Session {
         let outcome = format!("{} for the lines that follow", busy_text(marks));
         sheet.text("outcome", outcome);
         sheet.list("rule", rule);
-        sheet.list("changed", Vec::from_iter((before != marks).then(|| change)));
+        sheet.list(
+            "changed",
+            Vec::from_iter((before != marks).then_some(change)),
+        );
         sheet
     }
 }

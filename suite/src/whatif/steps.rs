@@ -93,7 +93,7 @@ impl Step {
             3 => payload_size(command, request, setting),
             4 => unknown_thing(request, setting),
             5 => unknown_operation(request),
-            6 => block_number(request, setting).or_else(|| not_ascending(request)),
+            6 => block_number(request, setting).or_else(|| not_ascending(request.members())),
             7 => declared_length(command, request, setting),
             8 => read_only(command, request, setting),
             9 => busy(command, request, setting),
@@ -180,11 +180,9 @@ fn block_number(request: Packet, setting: &Setting) -> Option<String> {
     (block >= blocks).then(text)
 }
 
-fn not_ascending(request: Packet) -> Option<String> {
-    let pair = request
-        .members()
-        .windows(2)
-        .find(|pair| pair[0] >= pair[1])?;
+/// Where IDs are not strictly ascending, if they are not.
+pub fn not_ascending(ids: &[u8]) -> Option<String> {
+    let pair = ids.windows(2).find(|pair| pair[0] >= pair[1])?;
     Some(format!("{} comes after {}", pair[1], pair[0]))
 }
 

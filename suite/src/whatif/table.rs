@@ -1,13 +1,15 @@
 //! What in a board breaks 01's table, as 2026-03 amends it: the reason of refusal 1.
 use super::bytes::{counted, grouped};
-use super::things::{curve, listed};
-use crate::lent::{all_declared, full_lengths, members, sums_length, values_length, Lent};
+use super::things::listed;
+use crate::lent::{
+    all_declared, byte_place, full_lengths, members, sums_length, values_length, Lent,
+};
 use cruachvel::{Kind, Variable, MOST_BLOCKS, MOST_CURVE_BYTES, MOST_VALUE_BYTES, MOST_VARIABLES};
 
 /// The first thing that breaks the table, if something does.
 pub fn broken(lent: &Lent) -> Option<String> {
     variables(&lent.variables)
-        .or_else(|| curves(lent))
+        .or_else(|| curves(&lent.curves))
         .or_else(|| functions(&lent.functions))
         .or_else(|| stores(lent))
         .or_else(|| lengths(lent))
@@ -75,18 +77,20 @@ fn variable(record: &Variable) -> Option<String> {
     }
 }
 
-fn curves(lent: &Lent) -> Option<String> {
-    let (count, left) = (lent.curves.len() / 3, lent.curves.len() % 3);
+/// The same for the curve records, three numbers each.
+pub fn curves(curves: &[u32]) -> Option<String> {
+    let (count, left) = (curves.len() / 3, curves.len() % 3);
     if left != 0 {
         return Some("a curve record is cut off".to_string());
     }
     if count > 8 {
         return Some(format!("{} curves; 0 to 8 are allowed", count));
     }
-    let mut wrong = (0..count)
-        .filter_map(|number| Some(format!("curve {} {}", number, curve_fault(lent, number)?)));
+    let records = curves.chunks_exact(3).enumerate();
+    let mut wrong =
+        records.filter_map(|(number, record)| Some(format!("curve {} {}", number, curve(record)?)));
     wrong.next().or_else(|| {
-        let bytes = blocks_length(lent);
+        let bytes = byte_place(curves, count).start;
         let total = grouped(bytes);
         (bytes > MOST_CURVE_BYTES).then(|| {
             format!(
@@ -97,30 +101,27 @@ fn curves(lent: &Lent) -> Option<String> {
     })
 }
 
-fn curve_fault(lent: &Lent, number: usize) -> Option<String> {
-    let (kind, record) = (lent.curves[3 * number], curve(lent, number)?);
+fn curve(record: &[u32]) -> Option<String> {
+    let (kind, size, blocks) = (record[0], record[1] as usize, record[2] as usize);
     if kind > 1 {
         Some(format!("has type {}, which is neither 0 nor 1", kind))
-    } else if !(1..=4096).contains(&record.size) {
+    } else if !(1..=4096).contains(&size) {
         Some(format!(
             "has blocks of {}; 1 to 4,096 are allowed",
-            counted(record.size, "byte")
+            counted(size, "byte")
         ))
-    } else if !(1..=MOST_BLOCKS).contains(&record.blocks) {
+    } else if !(1..=MOST_BLOCKS).contains(&blocks) {
         Some(format!(
             "has {}; 1 to 65,536 are allowed",
-            counted(record.blocks, "block")
+            counted(blocks, "block")
         ))
     } else {
         None
     }
 }
 
-fn blocks_length(lent: &Lent) -> usize {
-    lent.curve_place(lent.curves.len() / 3).start
-}
-
-fn functions(functions: &[u8]) -> Option<String> {
+/// The same for the function records, two numbers each.
+pub fn functions(functions: &[u8]) -> Option<String> {
     let (count, left) = (functions.len() / 2, functions.len() % 2);
     if left != 0 {
         return Some("a function record is cut off".to_string());
@@ -145,7 +146,11 @@ fn stores(lent: &Lent) -> Option<String> {
             lent.values.len(),
             values_length(&lent.variables),
         ),
-        ("curves", lent.blocks.len(), blocks_length(lent)),
+        (
+            "curves",
+            lent.blocks.len(),
+            byte_place(&lent.curves, lent.curves.len() / 3).start,
+        ),
         ("sums", lent.sums.len(), sums_length(&lent.curves)),
     ];
     let (name, lent, right) = stores.into_iter().find(|(_, lent, right)| lent != right)?;

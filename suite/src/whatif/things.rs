@@ -1,13 +1,14 @@
 //! A board as messages see it: its variables, groups, curves and functions by number, and what they are called.
 use super::bytes::{counted, grouped};
 use crate::lent::{members, Lent};
-use cruachvel::{Kind, Variable, VariableNumber};
+use cruachvel::{Kind, Learned, Variable, VariableNumber};
 
-/// A board with its busy marks.
+/// A board with its busy marks, and what a gateway knows of it.
 #[derive(Clone, Debug, PartialEq, Eq)]
 pub struct Setting {
     pub lent: Lent,
     pub busy: u64,
+    pub known: Learned,
 }
 
 /// A group that exists.

@@ -33,7 +33,7 @@ fn a_board_file_says_all_that_a_board_has() {
         function 0 3
         group 0 1
         group 2";
-    let Setting { lent, busy } = parse(text).expect("a board");
+    let Setting { lent, busy, .. } = parse(text).expect("a board");
     assert_eq!(busy, 0b101);
     assert_eq!((lent.address.own, lent.address.multicast), (9, 1));
     assert_eq!(lent.values, [0xFE, 0xFF, 0, 0, 0, 0xFE]);

@@ -167,8 +167,15 @@ fn a_call_is_printed_as_it_is_read() {
         "result 0 quiet gave 12 34",
         "result 0 due failed 09",
         "fresh",
+        "ask 5 version",
+        "ask 248 read 300",
+        "ask 5 make-group 2 0",
+        "ask 31 mask-group 2 toggle 0F 00 01",
+        "ask 5 write-read 1 0 66",
+        "ask 5 write-block 0 1 AA BB",
+        "forget",
     ] {
-        let call = match Line::or_packet(text) {
+        let call = match Line::or_packet(text, None) {
             Ok(Line::Call(call)) => call,
             other => panic!("{} is read as {:?}", text, other),
         };
@@ -176,7 +183,7 @@ fn a_call_is_printed_as_it_is_read() {
         assert_eq!(format!("{} {}", keyword, rest).trim_end(), text);
     }
     let packet = Ok(Line::Call(Call::Packet(vec![5, 0xFB])));
-    assert_eq!(Line::or_packet(" 05 FB "), packet);
+    assert_eq!(Line::or_packet(" 05 FB ", None), packet);
 }
 
 #[test]
@@ -196,6 +203,33 @@ fn a_line_that_is_written_wrong_is_told_how() {
             "a result is written so: result FUNCTION due|quiet gave|failed BYTES",
         ),
         ("fresh 0", "a fresh is written so: fresh"),
+        ("ask 5", "an ask is written so: ask DESTINATION REQUEST"),
+        ("ask 5 raed 0", "\"raed\" is no request"),
+        (
+            "ask 5 write-read 1",
+            "write-read is asked so: ask DESTINATION write-read WRITTEN READ BYTES",
+        ),
+        (
+            "ask 5 read 0 1",
+            "read is asked so: ask DESTINATION read VARIABLE",
+        ),
+        (
+            "ask 256 version",
+            "\"256\" is no number that can stand here",
+        ),
+        (
+            "ask 5 make-group 2 256",
+            "\"256\" is no number that can stand here",
+        ),
+        (
+            "ask 5 mask 1 invert 0F",
+            "\"invert\" is none of set, or, clear, toggle, xor and and",
+        ),
+        (
+            "hear 00 E0 00 00 20",
+            "a reply is heard to what was asked before it, and nothing was",
+        ),
+        ("forget 0", "a forget is written so: forget"),
         (
             "write signed 0 1 into 65536",
             "\"65536\" is no number that can stand here",
@@ -206,17 +240,15 @@ fn a_line_that_is_written_wrong_is_told_how() {
         ),
     ];
     for (line, message) in wrong {
-        assert_eq!(Line::or_packet(line), Err(message.to_string()));
+        assert_eq!(Line::or_packet(line, None), Err(message.to_string()));
     }
 }
 
 #[test]
 fn a_checksum_that_is_there_twice_is_pointed_out() {
     let hint = |packet: &str| {
-        let mut session = Session {
-            setting: board_a_idle(),
-            sum: true,
-        };
+        let mut session = Session::new(board_a_idle());
+        session.sum = true;
         let text = session.tell(packet).expect(packet).lines();
         let hint = text.lines().find(|line| line.starts_with("hint"));
         hint.map(str::to_string)

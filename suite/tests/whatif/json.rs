@@ -3,10 +3,7 @@ use crate::board_a_idle;
 use suite::whatif::{captured, json, Session};
 
 fn told(line: &str) -> String {
-    let mut session = Session {
-        setting: board_a_idle(),
-        sum: false,
-    };
+    let mut session = Session::new(board_a_idle());
     session.tell(line).expect(line).json()
 }
 
@@ -43,7 +40,7 @@ fn other_calls_and_replies_have_their_facts_too() {
         "\n"
     );
     assert_eq!(told("store 1 66"), expected);
-    let reply = captured(&[0, 0xE0, 0, 0, 0x21], &board_a_idle()).json();
+    let reply = captured(&[0, 0xE0, 0, 0, 0x21], None, &board_a_idle()).json();
     let end = "\"wrong\":[\"the checksum should be 20\"]}\n";
     assert!(reply.ends_with(end), "{}", reply);
     for (line, ended) in [
@@ -63,10 +60,7 @@ fn other_calls_and_replies_have_their_facts_too() {
 fn a_renewed_sum_is_told_too() {
     let mut setting = board_a_idle();
     setting.lent.sums.fill(0);
-    let mut session = Session {
-        setting,
-        sum: false,
-    };
+    let mut session = Session::new(setting);
     let text = session.tell("05 42 00 01 00 B8").expect("a packet").json();
     let zeros = ["00"; 16].join(" ");
     let end = format!(

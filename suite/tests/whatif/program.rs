@@ -53,12 +53,22 @@ const MISUSES: &[(&[&str], i32, &str)] = &[
     (
         &["stroe 1 66"],
         1,
-        "whatif: argument 1: \"stroe\" is neither bytes in hex nor packet, store, read, write, result, fresh or busy",
+        "whatif: argument 1: \"stroe\" is neither bytes in hex nor packet, store, read, write, result, fresh, ask, hear, forget or busy",
     ),
     (
         &["--reply", "00 1G"],
         1,
         "whatif: --reply: 'G' at place 5 is no hex digit",
+    ),
+    (
+        &["--reply=00", "--request", "05 1"],
+        1,
+        "whatif: --request: a byte has two digits, and at place 4 stands one",
+    ),
+    (
+        &["--request", "05 FB"],
+        2,
+        "whatif: --request takes a --reply beside it",
     ),
     (
         &["--board", "/"],
@@ -74,7 +84,7 @@ fn the_program_ends_with_what_it_promises() {
         assert_eq!(said(&output), (Some(*status), message.to_string()));
     }
     let output = whatif(&[], "# one\n\n05 FB\nxx\n");
-    let message = "whatif: line 4: \"xx\" is neither bytes in hex nor packet, store, read, write, result, fresh or busy";
+    let message = "whatif: line 4: \"xx\" is neither bytes in hex nor packet, store, read, write, result, fresh, ask, hear, forget or busy";
     assert_eq!(said(&output), (Some(1), message.to_string()));
     assert!(output.stdout.starts_with(b"packet    05 FB\n"));
 }

@@ -61,7 +61,7 @@ impl Met {
                 assert!(!matches!(**rule, Rule::Refusal(..) | Rule::Multicast(..)));
                 self.check(rule, request, before);
             }
-            Rule::Sentence(_) | Rule::Amended(_) | Rule::None => panic!("{}", told()),
+            Rule::Sentence(_) | Rule::Amended(..) | Rule::None => panic!("{}", told()),
         }
     }
 }
@@ -81,7 +81,7 @@ fn small_setting(random: &mut Random) -> Setting {
     while lent.blocks.len() > 4096 {
         lent = usable(random);
     }
-    Setting { lent, busy: 0 }
+    Setting::new(lent, 0)
 }
 
 // One packet, and what the rules say to it.

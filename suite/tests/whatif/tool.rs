@@ -39,6 +39,7 @@ const MISUSES: &[(&[&str], &str)] = &[
     (&["05 FB", "--board"], "--board takes something after it"),
     (&["--busy"], "--busy takes something after it"),
     (&["--reply"], "--reply takes something after it"),
+    (&["--request"], "--request takes something after it"),
     (&["--sum=1"], "--sum takes nothing after it"),
     (&["--board", "no-such-file", "-x"], "-x is no option"),
 ];
@@ -65,11 +66,12 @@ fn both_take_every_option_of_the_help() {
     let options: Vec<&str> = options
         .filter_map(|line| line.split_whitespace().next())
         .collect();
-    assert_eq!(options.len(), 7, "{:?}", options);
+    assert_eq!(options.len(), 8, "{:?}", options);
     for option in options {
         let arguments = match option {
             "--board" => vec![option, "/dev/null"],
             "--busy" | "--reply" => vec![option, "1"],
+            "--request" => vec![option, "1", "--reply", "1"],
             _ => vec![option],
         };
         let asked = wanted(arguments.iter().map(OsString::from));
