@@ -1,4 +1,4 @@
-/* Every case of docs/what-if.cases through the C face: how each call ends, with its bytes, and the state that it leaves. The table is made by
+/* Every case of docs/what-if.cases but a gateway's own calls through the C face: how each call ends, with its bytes, and the state that it leaves. The table is made by
  * the suite's program `cases table`. Needs no files, so that it runs on a bare board too. */
 #include "bsmp.h"
 
