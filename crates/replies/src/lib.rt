@@ -468,14 +468,14 @@ fn answer(
     sizes: &[u8],
     writable: u64,
     made: &[u64],
-    drawn: &[u32],
-    callable: &[u8],
+    shapes: &[u32],
+    calls: &[u8],
     request: Request,
     code: u8,
     payload: &[u8],
 ) -> Told
     requires { ⌜ length (now sizes) ≤ 64 ⌝ }
-    ensures { λ r. let x = tableIn (now (sizes .entry)) writable (now (made .entry)) (now (drawn .entry)) (now (callable .entry)) in
+    ensures { λ r. let x = tableIn (now (sizes .entry)) writable (now (made .entry)) (now (shapes .entry)) (now (calls .entry)) in
         ⌜ r ≡ toldOf (answered x (wanted x request) code (now (payload .entry))) ⌝ }
 {
     match request {
@@ -484,7 +484,7 @@ fn answer(
         Request::ListGroups => groups(code, payload),
         Request::ShowGroup(g) => members(g, code, payload),
         Request::ListCurves => curves(code, payload),
-        Request::ReadSum(c) => sum_told(drawn, c, code, payload),
+        Request::ReadSum(c) => sum_told(shapes, c, code, payload),
         Request::ListFunctions => functions(code, payload),
         Request::ReadVariable(i) => variable_told(sizes, i, code, payload),
         Request::ReadGroup(g) => group_told(sizes, writable, made, g, code, payload),
@@ -495,10 +495,10 @@ fn answer(
         Request::WriteRead { written: _, read } => variable_told(sizes, read, code, payload),
         Request::MakeGroup => done(code, payload),
         Request::RemoveGroups => done(code, payload),
-        Request::ReadBlock { curve, block } => block_told(drawn, curve, block, code, payload),
+        Request::ReadBlock { curve, block } => block_told(shapes, curve, block, code, payload),
         Request::WriteBlock { curve: _, block: _ } => done(code, payload),
         Request::RenewSum(_) => done(code, payload),
-        Request::RunFunction(f) => output_told(callable, f, code, payload),
+        Request::RunFunction(f) => output_told(calls, f, code, payload),
     }
 }
 
@@ -507,14 +507,14 @@ fn told(
     sizes: &[u8],
     writable: u64,
     made: &[u64],
-    drawn: &[u32],
-    callable: &[u8],
+    shapes: &[u32],
+    calls: &[u8],
     request: Request,
     code: u8,
     payload: &[u8],
 ) -> Told
     requires { ⌜ length (now sizes) ≤ 64 ⌝ }
-    ensures { λ r. let x = tableIn (now (sizes .entry)) writable (now (made .entry)) (now (drawn .entry)) (now (callable .entry)) in
+    ensures { λ r. let x = tableIn (now (sizes .entry)) writable (now (made .entry)) (now (shapes .entry)) (now (calls .entry)) in
         ⌜ r ≡ toldOf (messageHeard x (wanted x request) code (now (payload .entry))) ⌝ }
 {
     if is_error(code, payload) {
@@ -524,8 +524,8 @@ fn told(
         sizes,
         writable,
         made,
-        drawn,
-        callable,
+        shapes,
+        calls,
         request,
         code,
         payload,
@@ -537,14 +537,14 @@ fn read_by(
     sizes: &[u8],
     writable: u64,
     made: &[u64],
-    drawn: &[u32],
-    callable: &[u8],
+    shapes: &[u32],
+    calls: &[u8],
     destination: u8,
     request: Request,
     reply: &[u8],
 ) -> Told
     requires { ⌜ length (now sizes) ≤ 64 ⌝ }
-    ensures { λ r. let x = tableIn (now (sizes .entry)) writable (now (made .entry)) (now (drawn .entry)) (now (callable .entry)) in
+    ensures { λ r. let x = tableIn (now (sizes .entry)) writable (now (made .entry)) (now (shapes .entry)) (now (calls .entry)) in
         ⌜ r ≡ toldOf (heardBy x (wanted x request) destination (now (reply .entry))) ⌝ }
 {
     match open(destination, reply) {
@@ -554,8 +554,8 @@ fn read_by(
                 sizes,
                 writable,
                 made,
-                drawn,
-                callable,
+                shapes,
+                calls,
                 request,
                 reply[1],
                 &reply[4..end],
