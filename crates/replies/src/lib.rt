@@ -520,16 +520,7 @@ fn told(
     if is_error(code, payload) {
         return Told::Error(error_of(code));
     }
-    answer(
-        sizes,
-        writable,
-        made,
-        shapes,
-        calls,
-        request,
-        code,
-        payload,
-    )
+    answer(sizes, writable, made, shapes, calls, request, code, payload)
 }
 
 // A reply, with a table that is lent by the fronts of its places.
