@@ -11,7 +11,7 @@ ghost use Rattle.answers.specs.declared.Spoken.TheVariants.{Reply};
 use bsmp::{Command, FunctionNumber};
 
 // What is said to a message: a reply whose payload stands in the buffer, that a function is to be run, or, where no answer is due, nothing.
-#[derive(Drop)]
+#[derive(Clone, Copy)]
 pub enum Spoken {
     Reply {
         code: u8,

@@ -5,7 +5,7 @@ ghost use Rattle.asking.specs.Request.{mask_code, is_address};
 use bsmp::{CurveNumber, FunctionNumber, GroupNumber, Refusal, VariableNumber, WireError};
 
 // The six operations of a mask, each a request of its own, though two pairs of them do the same.
-#[derive(Drop)]
+#[derive(Clone, Copy)]
 pub enum Masking {
     Set,
     Or,
@@ -32,7 +32,7 @@ impl Masking {
 
 // What is asked for: the requests of 01's table, each number of its own sort. The bytes that go with some of them (the value or mask, the
 // IDs of a new group, a block's bytes, a function's input) are handed in beside it.
-#[derive(Drop)]
+#[derive(Clone, Copy)]
 pub enum Request {
     Version,
     ListVariables,
@@ -79,7 +79,7 @@ pub fn is_address(destination: u8) -> bool
 }
 
 // How writing a request ends: so many bytes stand at the start of the buffer, or a local refusal.
-#[derive(Drop)]
+#[derive(Clone, Copy)]
 pub enum Asked {
     Written(usize),
     Refused(Refusal),
@@ -88,7 +88,7 @@ pub enum Asked {
 // What a reply says, by places in it: an error; that it is done; 02 14 00; so many records of a list, members of a group, or bytes of values
 // or of a function's output, from place 4 on; so many bytes of a block, from place 7 on; the 16 bytes of a sum, from place 4 on; a function's
 // error byte. Or a local refusal.
-#[derive(Drop)]
+#[derive(Clone, Copy)]
 pub enum Told {
     Error(WireError),
     Done,

@@ -26,14 +26,14 @@ fn variables() -> Records {
 }
 
 // How a packet ended, and the group table after it.
-#[derive(Drop)]
+#[derive(Clone, Copy)]
 struct Ended {
     outcome: Outcome,
     groups: Groups,
 }
 
 // How long a packet's line is, and the group table after it.
-#[derive(Drop)]
+#[derive(Clone, Copy)]
 struct Turned {
     size: usize,
     groups: Groups,
@@ -174,7 +174,7 @@ fn whole(buf: &[u8], at: usize, have: usize) -> usize
 }
 
 // How far the records of a buffer came: the input and the output that are used up, the next record's number, the group table.
-#[derive(Drop)]
+#[derive(Clone, Copy)]
 struct Place {
     at: usize,
     used: usize,
@@ -285,7 +285,7 @@ fn cut(number: u64, out: &mut [u8])
     put(&out[0..b]);
 }
 
-#[derive(Drop)]
+#[derive(Clone, Copy)]
 struct Next {
     go: bool,
     have: usize,

@@ -3,21 +3,21 @@ ghost use Rattle.std.specs.Prelude.{◌≡◌};
 ghost use Rattle.bsmp.specs.Codes.{command_of, operation_of, is_other, no_operation, kind_of, error_code, refusal_number};
 
 // Variables, groups, curves and functions are each numbered from 0 on their own: one type for each sort of number.
-#[derive(Drop)]
+#[derive(Clone, Copy)]
 pub struct VariableNumber(pub usize);
 
-#[derive(Drop)]
+#[derive(Clone, Copy)]
 pub struct GroupNumber(pub usize);
 
-#[derive(Drop)]
+#[derive(Clone, Copy)]
 pub struct CurveNumber(pub usize);
 
-#[derive(Drop)]
+#[derive(Clone, Copy)]
 pub struct FunctionNumber(pub usize);
 
 // A variable's record as a board lends it: writable 0 or 1, size in bytes, kind by its number.
 #[repr(C)]
-#[derive(Drop)]
+#[derive(Clone, Copy)]
 pub struct Variable {
     pub writable: u8,
     pub size: u8,
@@ -25,7 +25,7 @@ pub struct Variable {
 }
 
 // A curve's record: writable 0 or 1, the size of a block, how many blocks.
-#[derive(Drop)]
+#[derive(Clone, Copy)]
 pub struct Curve {
     pub writable: u32,
     pub size: u32,
@@ -33,14 +33,14 @@ pub struct Curve {
 }
 
 // A function's record: bytes in, bytes out.
-#[derive(Drop)]
+#[derive(Clone, Copy)]
 pub struct Function {
     pub input: u8,
     pub output: u8,
 }
 
 // What a variable's bytes mean.
-#[derive(Drop)]
+#[derive(Clone, Copy)]
 pub enum Kind {
     Plain,
     Number { signed: bool, big: bool },
@@ -85,7 +85,7 @@ impl Kind {
 }
 
 // What is done to a value byte by byte: the new byte in its place, or what the six operations do with the mask's bits.
-#[derive(Drop)]
+#[derive(Clone, Copy)]
 pub enum Operation {
     Replace,
     TurnOn,
@@ -143,7 +143,7 @@ pub fn no_operation(code: u8) -> bool
     Operation::of(code).is_other()
 }
 
-#[derive(Drop)]
+#[derive(Clone, Copy)]
 pub enum Command {
     Version,
     ListVariables,
@@ -239,7 +239,7 @@ impl Command {
 }
 
 // The wire errors; 01's codes E1 to E8 in this order.
-#[derive(Drop)]
+#[derive(Clone, Copy)]
 pub enum WireError {
     Malformed,
     Unsupported,
@@ -269,14 +269,14 @@ impl WireError {
 }
 
 // A message passes all its tests, or gets the first error.
-#[derive(Drop)]
+#[derive(Clone, Copy)]
 pub enum Check {
     Pass,
     Fail(WireError),
 }
 
 // The local refusals; 01's numbers 1 to 12, and 02's 13 and 14, in this order.
-#[derive(Drop)]
+#[derive(Clone, Copy)]
 pub enum Refusal {
     BoardUnusable,
     BadAddress,
@@ -319,7 +319,7 @@ impl Refusal {
 
 // How a call ends: a reply of n bytes, silence, a function to be run, or a local refusal. A reply's bytes stand in the reply
 // buffer; a function's input, of the length given, stands at place 5 of the packet.
-#[derive(Drop)]
+#[derive(Clone, Copy)]
 pub enum Outcome {
     Reply(usize),
     Silence,

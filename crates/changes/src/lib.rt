@@ -13,7 +13,7 @@ ghost use Rattle.changes.specs.declared.Regroup.TheVariants.{Keep};
 use bsmp::{Command, Operation};
 
 // What a message makes of the made groups. Where none are made there are none to remove, and they are kept.
-#[derive(Drop)]
+#[derive(Clone, Copy)]
 pub enum Regroup {
     Keep,
     Make(u64),

@@ -73,7 +73,7 @@ pub fn check_write(curves: &[u32], payload: &[u8]) -> Check
 }
 
 // Where the block that a payload names stands: in the store from a byte on, and its length at a place.
-#[derive(Drop)]
+#[derive(Clone, Copy)]
 struct Block {
     at: usize,
     place: usize,

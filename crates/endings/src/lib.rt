@@ -10,7 +10,7 @@ use results::{Ran, Stored};
 // How a call ends: kind 0 a reply of `length` bytes, 1 silence, 2 a function to be run with `length` bytes of input from place
 // `input` of the packet on, 3 a local refusal with 01's number. What a kind has no use for is 0.
 #[repr(C)]
-#[derive(Drop)]
+#[derive(Clone, Copy)]
 pub struct PlainOutcome {
     pub kind: u8,
     pub refusal: u8,
@@ -22,14 +22,14 @@ pub struct PlainOutcome {
 
 // Bytes to number: refusal 0 and the number, or 01's number of the refusal and 0.
 #[repr(C)]
-#[derive(Drop)]
+#[derive(Clone, Copy)]
 pub struct PlainSignedReading {
     pub refusal: u64,
     pub number: i64,
 }
 
 #[repr(C)]
-#[derive(Drop)]
+#[derive(Clone, Copy)]
 pub struct PlainUnsignedReading {
     pub refusal: u64,
     pub number: u64,

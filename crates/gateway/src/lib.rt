@@ -11,7 +11,7 @@ use replies::Opened;
 
 // How writing a request ended: refusal 0 and its length, or 01's or 02's number of the refusal and 0.
 #[repr(C)]
-#[derive(Drop)]
+#[derive(Clone, Copy)]
 pub struct PlainAsked {
     pub refusal: u8,
     pub length: usize,
@@ -21,7 +21,7 @@ pub struct PlainAsked {
 // the lists 03, 05, 07, 09 and 0D, `length` records of them; 9 values, 10 a block, 11 a sum, 12 a function's output, `length` bytes of them;
 // 13 a function's error byte. They stand in the reply from `place` on. What a kind has no use for is 0.
 #[repr(C)]
-#[derive(Drop)]
+#[derive(Clone, Copy)]
 pub struct PlainHeard {
     pub kind: u8,
     pub refusal: u8,
@@ -31,7 +31,7 @@ pub struct PlainHeard {
 }
 
 // What was heard, and how much is known then.
-#[derive(Drop)]
+#[derive(Clone, Copy)]
 pub struct HeardDone {
     pub heard: PlainHeard,
     pub variables: u64,
@@ -42,7 +42,7 @@ pub struct HeardDone {
 }
 
 // The operation of this code, if it is one of the six.
-#[derive(Drop)]
+#[derive(Clone, Copy)]
 enum Mask {
     Is(Masking),
     Nothing,
@@ -63,7 +63,7 @@ fn mask_of(code: u8) -> Mask
 }
 
 // The request of this code and these numbers, if it is one of 01's table.
-#[derive(Drop)]
+#[derive(Clone, Copy)]
 enum Named {
     Is(Request),
     Nothing,

@@ -13,7 +13,7 @@ use learned::Known;
 
 // Where a variable's bytes stand in a reply: refusal 0, its place and its length; or the refusal, and 0.
 #[repr(C)]
-#[derive(Drop)]
+#[derive(Clone, Copy)]
 pub struct PlainPlace {
     pub refusal: u8,
     pub place: usize,

@@ -122,7 +122,7 @@ pub fn check_mask(sizes: &[u8], writable: u64, groups: &[u64], payload: &[u8], b
 }
 
 // What a walk over a new group's IDs finds: whether one names no variable, whether they ascend; the next may be no less than `least`.
-#[derive(Drop)]
+#[derive(Clone, Copy)]
 struct Ids {
     unknown: bool,
     ascending: bool,

@@ -8,7 +8,7 @@ ghost use Rattle.learned.specs.Table.{sizes_in, curves_in, functions_in, table_o
 // How much is known: so many variables, the writable ones as marks, so many made groups, curves and functions. Their records stand in places
 // lent beside it: a size for each variable, a set for each group, three numbers for each curve (type, block size, blocks) and two for each
 // function (input, output). Of the places, and of the marks, past a count nothing counts.
-#[derive(Drop)]
+#[derive(Clone, Copy)]
 pub struct Known {
     pub variables: u64,
     pub writable: u64,

@@ -12,7 +12,7 @@ use bsmp::GroupNumber;
 use learned::Known;
 
 // What was heard, and how much is known then.
-#[derive(Drop)]
+#[derive(Clone, Copy)]
 pub struct Heard {
     pub told: Told,
     pub known: Known,

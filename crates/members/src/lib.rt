@@ -40,7 +40,7 @@ fn start_of(set: u64) -> usize
 
 // Members that a walk met last, one right after the other, and has not carried over yet: their bytes stand together, in the store from `at` on
 // and in the reply or the payload from `other` on.
-#[derive(Drop)]
+#[derive(Clone, Copy)]
 struct Run {
     at: usize,
     bytes: usize,

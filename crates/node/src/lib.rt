@@ -19,14 +19,14 @@ use records::Groups;
 use wire::Opened;
 
 // How a call ended, and how many groups are made then.
-#[derive(Drop)]
+#[derive(Clone, Copy)]
 pub struct Done {
     pub outcome: Outcome,
     pub count: u64,
 }
 
 // How the work of a packet ended, and what it makes of the made groups.
-#[derive(Drop)]
+#[derive(Clone, Copy)]
 struct Received {
     outcome: Outcome,
     regroup: Regroup,

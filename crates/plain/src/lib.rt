@@ -12,13 +12,13 @@ use endings::{PlainOutcome, PlainSignedReading, PlainUnsignedReading};
 
 // A sum of 16 bytes.
 #[repr(C)]
-#[derive(Drop)]
+#[derive(Clone, Copy)]
 pub struct PlainSum {
     pub bytes: [u8; 16],
 }
 
 // What a packet comes to: how it ends, and how many groups are made then.
-#[derive(Drop)]
+#[derive(Clone, Copy)]
 pub struct PlainDone {
     pub outcome: PlainOutcome,
     pub count: u64,

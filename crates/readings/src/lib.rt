@@ -7,28 +7,28 @@ ghost use Rattle.readings.specs.Answers.{judged_of, signed_reading_of, unsigned_
 use bsmp::{Kind, Refusal, VariableNumber};
 
 // What signed bytes mean.
-#[derive(Drop)]
+#[derive(Clone, Copy)]
 pub enum SignedReading {
     Is(i64),
     Refused(Refusal),
 }
 
 // What unsigned bytes mean.
-#[derive(Drop)]
+#[derive(Clone, Copy)]
 pub enum UnsignedReading {
     Is(u64),
     Refused(Refusal),
 }
 
 // Whether a number's bytes were written.
-#[derive(Drop)]
+#[derive(Clone, Copy)]
 pub enum Writing {
     Done,
     Refused(Refusal),
 }
 
 // A variable that holds such a number, with the order of its bytes, or the first refusal.
-#[derive(Drop)]
+#[derive(Clone, Copy)]
 enum Judged {
     Good { big: bool },
     Refused(Refusal),

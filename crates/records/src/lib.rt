@@ -7,7 +7,7 @@ ghost use Rattle.records.specs.Lending.{writable_marks, curves_of, functions_of,
 use bsmp::{Curve, CurveNumber, Function, FunctionNumber};
 
 // The variable records by columns; of the places from `count` on, nothing counts.
-#[derive(Drop)]
+#[derive(Clone, Copy)]
 pub struct Records {
     pub count: usize,
     pub writable: [u8; 64],
@@ -24,7 +24,7 @@ pub struct Groups {
 }
 
 // A group that goes into the table: the count with it, and what it writes into which place.
-#[derive(Drop)]
+#[derive(Clone, Copy)]
 pub struct NewGroup {
     pub count: u64,
     pub place: usize,
@@ -32,7 +32,7 @@ pub struct NewGroup {
 }
 
 // What stands before a curve: in the lengths so many blocks, in the curve store so many bytes.
-#[derive(Drop)]
+#[derive(Clone, Copy)]
 pub struct Start {
     pub blocks: usize,
     pub bytes: usize,

@@ -10,7 +10,7 @@ use bsmp::{Refusal, WireError};
 use learned::Known;
 
 // What a reply yields: a message, whose SIZE is right and which stands from place 1 up to the last byte, or its refusal.
-#[derive(Drop)]
+#[derive(Clone, Copy)]
 pub enum Opened {
     Message,
     Refused(Refusal),

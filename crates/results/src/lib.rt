@@ -12,20 +12,20 @@ ghost use Rattle.results.specs.declared.Judged.TheVariants.{Pass, Refuse};
 use bsmp::{FunctionNumber, Outcome, Refusal, VariableNumber};
 
 // How a function ran. The bytes that it gave stand beside this; one that failed gives an error byte only.
-#[derive(Drop)]
+#[derive(Clone, Copy)]
 pub enum Ran {
     Gave,
     Failed(u8),
 }
 
-#[derive(Drop)]
+#[derive(Clone, Copy)]
 pub enum Stored {
     Done,
     Refused(Refusal),
 }
 
 // A call passes all its tests, or gets the first refusal.
-#[derive(Drop)]
+#[derive(Clone, Copy)]
 enum Judged {
     Pass,
     Refuse(Refusal),

@@ -5,7 +5,7 @@ ghost use Rattle.rfc1321.specs.Md5.{◌⊞◌, ◌<<<◌, word, table, operation
 ghost use Rattle.rfc1321.specs.Ready.{Ready};
 
 // The four words that a message is worked into: the RFC's A, B, C and D.
-#[derive(Drop)]
+#[derive(Clone, Copy)]
 pub struct State {
     pub a: u32,
     pub b: u32,

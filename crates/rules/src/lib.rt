@@ -9,7 +9,7 @@ ghost use Rattle.rules.specs.Totals.{variables_total, curves_total};
 use bsmp::{Curve, Variable};
 
 // Of usable records: the bytes that they add up to, in a number that has 32 bits on every target.
-#[derive(Drop)]
+#[derive(Clone, Copy)]
 pub struct Total {
     pub usable: bool,
     pub bytes: u32,
@@ -23,7 +23,7 @@ impl Total {
 }
 
 // The same of curve records, with how many blocks they have and the block size that all of them have, or 0 if there is none.
-#[derive(Drop)]
+#[derive(Clone, Copy)]
 pub struct CurveTotal {
     pub usable: bool,
     pub bytes: u32,

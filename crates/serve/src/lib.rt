@@ -13,14 +13,14 @@ use bsmp::{Check, Command};
 use changes::Regroup;
 
 // A message's command, and how it was judged.
-#[derive(Drop)]
+#[derive(Clone, Copy)]
 struct Verdict {
     command: Command,
     check: Check,
 }
 
 // What is said to a message, and what it makes of the made groups.
-#[derive(Drop)]
+#[derive(Clone, Copy)]
 pub struct Served {
     pub said: Spoken,
     pub regroup: Regroup,

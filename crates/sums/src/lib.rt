@@ -11,7 +11,7 @@ ghost use Rattle.sums.specs.Sums.{sums_in, sum_at, SumNamed, content_in, covered
 use bsmp::CurveNumber;
 
 // All blocks of a curve: their size, where they stand in the store, and their lengths' places.
-#[derive(Drop)]
+#[derive(Clone, Copy)]
 struct Content {
     size: usize,
     from: usize,

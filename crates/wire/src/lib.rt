@@ -8,7 +8,7 @@ ghost use Rattle.wire.specs.Opening.{placed, opened_of};
 use bsmp::Refusal;
 
 // What a packet yields: a message, which stands from place 1 up to the last byte, or its refusal.
-#[derive(Drop)]
+#[derive(Clone, Copy)]
 pub enum Opened {
     Message { due: bool },
     Refused(Refusal),
