@@ -1,4 +1,6 @@
 // What a command that passed its tests is answered, out of the state after it.
+#![tactic(auto)]
+
 ghost use Rattle.std.specs.Prelude.{◌≡◌, true, [], ◌∷◌, ◌+◌, ◌≤◌, ◌<◌, length, drop};
 ghost use Rattle.bsmp.specs.Message.{function_at, line, runs, spoken};
 ghost use Rattle.parts.specs.Parts.{Passed, PayloadAt};

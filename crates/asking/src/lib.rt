@@ -1,4 +1,6 @@
 // The asking side (02, 2026-04): the types that its definition (specs/) and its code share. Its laws stand in proofs/.
+#![tactic(auto)]
+
 ghost use Rattle.std.specs.Prelude.{◌≡◌};
 ghost use Rattle.asking.specs.Request.{mask_code, is_address};
 

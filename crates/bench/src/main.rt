@@ -1,4 +1,6 @@
 // The bench: board A over standard input. Records of a two-byte length and a packet; one line for each.
+#![tactic(auto)]
+
 ghost use Rattle.std.specs.Prelude.{◌≡◌, ◌+◌, ◌*◌, ◌<◌, ◌≤◌, length};
 
 use bsmp::Outcome;

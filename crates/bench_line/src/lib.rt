@@ -1,4 +1,6 @@
 // The bench's line for an outcome, into a lent buffer.
+#![tactic(auto)]
+
 ghost use Rattle.std.specs.Prelude.{◌≡◌, ◌+◌, ◌≤◌, ◌<◌, length};
 
 use bsmp::Outcome;

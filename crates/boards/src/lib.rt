@@ -1,4 +1,6 @@
 // Refusal 1 for the whole board: its records, the sizes of its stores and its sums, its blocks' lengths, its groups.
+#![tactic(auto)]
+
 ghost use Rattle.std.specs.Prelude.{◌≡◌, true, cond, ◌&&◌, ◌+◌, ◌-◌, ◌*◌, ◌%◌, ◌≤◌, eqb, length};
 ghost use Rattle.bsmp.specs.Base.{sum};
 ghost use Rattle.bsmp.specs.Store.{held};

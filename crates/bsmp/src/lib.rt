@@ -1,4 +1,6 @@
 // The types that the definition and the code share: sorts of number, records, codes, errors, refusals, outcomes.
+#![tactic(auto)]
+
 ghost use Rattle.std.specs.Prelude.{◌≡◌};
 ghost use Rattle.bsmp.specs.Codes.{command_of, operation_of, is_other, no_operation, kind_of, error_code, refusal_number};
 

@@ -1,4 +1,6 @@
 // The C face of the asking side: requests, replies and the learned table on numbers, slices and plain structs.
+#![tactic(auto)]
+
 ghost use Rattle.std.specs.Prelude.{◌≡◌, true, false, pos};
 ghost use Rattle.endings.specs.Numbers.{signed_says, unsigned_says};
 ghost use Rattle.plain.specs.Calls.{plain_bytes_left};

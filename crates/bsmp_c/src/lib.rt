@@ -1,4 +1,6 @@
 // The C face: every entry on numbers, slices and plain structs, each thin over its work in plain numbers.
+#![tactic(auto)]
+
 ghost use Rattle.std.specs.Prelude.{◌≡◌, true, false, pos};
 ghost use Rattle.rfc1321.specs.Md5.{digest};
 ghost use Rattle.plain.specs.Lending.{lending};

@@ -1,4 +1,6 @@
 // What a command that passed its tests changes in the stores, the lengths and the sums, and what it makes of the made groups.
+#![tactic(auto)]
+
 ghost use Rattle.std.specs.Prelude.{◌≡◌, [], ◌∷◌, drop};
 ghost use Rattle.bsmp.specs.Base.{cut};
 ghost use Rattle.bsmp.specs.Message.{variable_at, line, edited};

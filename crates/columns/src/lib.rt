@@ -1,4 +1,6 @@
 // A board's variable records, lent as a slice of small structs, taken into columns, which are lent to the work.
+#![tactic(auto)]
+
 ghost use Rattle.std.specs.Prelude.{◌≡◌, min};
 ghost use Rattle.records.specs.Lending.{records_by};
 ghost use Rattle.columns.specs.Columns.{taken_into};

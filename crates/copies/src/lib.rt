@@ -1,4 +1,6 @@
 // Copies of bytes: a list into the front of another, and a part of one into another.
+#![tactic(auto)]
+
 ghost use Rattle.std.specs.Prelude.{◌≡◌, ◌+◌, ◌≤◌, length};
 ghost use Rattle.copies.specs.Put.{put, part};
 

@@ -1,4 +1,6 @@
 // The commands of curves: 40 reads a block, 41 writes one, 08 lists the curves; and the tests of 0A and 42, which are about a curve's sum.
+#![tactic(auto)]
+
 ghost use Rattle.std.specs.Prelude.{◌≡◌, true, [], ◌∷◌, ◌++◌, ◌+◌, ◌≤◌, ◌<◌, ltb, length, drop, set};
 ghost use Rattle.bsmp.specs.Base.{bit, word, word_at};
 ghost use Rattle.bsmp.specs.Board.{is_writable, usable_curves};

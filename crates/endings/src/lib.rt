@@ -1,4 +1,6 @@
 // Endings in plain numbers, as an exported function can give them: a kind, 01's number of a refusal, and lengths.
+#![tactic(auto)]
+
 ghost use Rattle.std.specs.Prelude.{◌≡◌};
 ghost use Rattle.readings.specs.Answers.{signed_reading_of, unsigned_reading_of};
 ghost use Rattle.endings.specs.Numbers.{plain_outcome_of, ran_from, stored_number, writing_number, plain_reading_of, signed_says, unsigned_says};

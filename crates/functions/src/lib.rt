@@ -1,4 +1,6 @@
 // The commands of functions: the check of 50, which runs one, and 0C, which lists them.
+#![tactic(auto)]
+
 ghost use Rattle.std.specs.Prelude.{◌≡◌, true, [], ◌+◌, ◌*◌, ◌≤◌, length};
 ghost use Rattle.bsmp.specs.Board.{usable_functions};
 ghost use Rattle.bsmp.specs.Message.{function_list, check};

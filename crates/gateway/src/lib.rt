@@ -1,4 +1,6 @@
 // The asking side in plain numbers: a request by its code and the numbers that it names, a table by its counts and places.
+#![tactic(auto)]
+
 ghost use Rattle.std.specs.Prelude.{◌≡◌};
 ghost use Rattle.asking.specs.declared.Told.TheVariants as T;
 ghost use Rattle.learned.specs.Table.{known_by, table_of};

@@ -1,5 +1,7 @@
 // Values out of replies, in plain numbers: where a member's bytes stand in the answer to a read of its group, and numbers by the kinds that the
 // gateway supplies. A table is taken by its counts and places.
+#![tactic(auto)]
+
 ghost use Rattle.std.specs.Prelude.{◌≡◌, true, false, [], pos, ◌≤◌, min, length};
 ghost use Rattle.learned.specs.Table.{known_by, table_of, table_in};
 ghost use Rattle.endings.specs.Numbers.{signed_says, unsigned_says};

@@ -1,5 +1,7 @@
 // The commands of groups: which error each meets, what a write changes, what the answers tell. Every check has the same parameters,
 // also those that it doesn't look at, and no check sees a value.
+#![tactic(auto)]
+
 ghost use Rattle.std.specs.Prelude.{◌≡◌, false, [], ◌∷◌, ◌++◌, map, ◌+◌, ◌≤◌, ◌<◌, length, drop};
 ghost use Rattle.bsmp.specs.Base.{some, cut, first};
 ghost use Rattle.bsmp.specs.Board.{size_of, marked, members, writable_group, group_count};

@@ -1,4 +1,6 @@
 // The answers that are no lists, each by its code and payload: E0, the version, values, a block, a sum, an output.
+#![tactic(auto)]
+
 ghost use Rattle.std.specs.Prelude.{◌≡◌, not, cond, ◌&&◌, [], ◌∷◌, ◌≤◌, eqb, length};
 ghost use Rattle.bsmp.specs.Board.{members};
 ghost use Rattle.bsmp.specs.Message.{no_variable, no_group};

@@ -1,4 +1,6 @@
 // A message's tests: its length and SIZE, then those of its command. All 20 commands together; nothing here knows how the message came.
+#![tactic(auto)]
+
 ghost use Rattle.std.specs.Prelude.{◌≡◌, ◌≤◌, length};
 ghost use Rattle.bsmp.specs.Base.{byte_at};
 ghost use Rattle.bsmp.specs.Codes.{command_of};

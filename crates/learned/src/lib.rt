@@ -1,4 +1,6 @@
 // What is learned of a node, as the gateway keeps it: numbers and places for them; and whether the table keeps 01's limits.
+#![tactic(auto)]
+
 ghost use Rattle.std.specs.Prelude.{◌≡◌, ◌&&◌, map, ◌%◌, leb};
 ghost use Rattle.bsmp.specs.Base.{every};
 ghost use Rattle.bsmp.specs.Board.{usable_curves, usable_functions};

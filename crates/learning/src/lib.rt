@@ -1,4 +1,6 @@
 // What is learned by a reply: the lists taken over, whole or not at all, and an accepted 30 and 32 followed.
+#![tactic(auto)]
+
 ghost use Rattle.std.specs.Prelude.{◌≡◌, map, ◌-◌, ◌*◌, ◌%◌, ◌≤◌, min, leb, ltb, length};
 ghost use Rattle.bsmp.specs.Base.{every, marks_of};
 ghost use Rattle.copies.specs.Put.{put};

@@ -1,4 +1,6 @@
 // Lists of bytes: the checksum, offsets, and a value changed in its place.
+#![tactic(auto)]
+
 ghost use Rattle.std.specs.Prelude.{◌≡◌, List, ℕ, ◌+◌, ◌%◌, ◌≤◌, ◌<◌, length, take, drop};
 ghost use Rattle.bsmp.specs.Base.{sum};
 ghost use Rattle.copies.specs.Put.{put, part};

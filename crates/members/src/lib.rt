@@ -1,4 +1,6 @@
 // The members of a set, walked in order of number: what they add up to, their values read and changed, their numbers.
+#![tactic(auto)]
+
 ghost use Rattle.std.specs.Prelude.{◌≡◌, cond, map, ◌+◌, ◌%◌, ◌≤◌, eqb, length, drop};
 ghost use Rattle.bsmp.specs.Base.{cut, up_from};
 ghost use Rattle.bsmp.specs.Message.{changed, edited, values_of};

@@ -1,4 +1,6 @@
 // The work of a packet's entry, by value and over slices: every board, packet and buffer is taken, and bad ones are refused.
+#![tactic(auto)]
+
 ghost use Rattle.std.specs.Prelude.{◌≡◌, ◌≤◌, length};
 ghost use Rattle.bsmp.specs.Board.{layout};
 ghost use Rattle.bsmp.specs.Packet.{message, served, packet};

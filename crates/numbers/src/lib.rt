@@ -1,4 +1,6 @@
 // Numbers and their bytes: unsigned and signed, big and little endian, at sizes 1, 2, 4 and 8.
+#![tactic(auto)]
+
 ghost use Rattle.std.specs.Prelude.{◌≡◌, true, false, ◌*◌, ◌^◌, ◌≤◌, ◌<◌, pos, length};
 ghost use Rattle.std.specs.Int.Signed.{mag};
 ghost use Rattle.bsmp.specs.Number.{little, little_bytes, turned, meant, in_range, unsigned_of, number_of, bytes_of};

@@ -1,4 +1,6 @@
 // The parts of a payload: none at all, numbers of one byte, each of its sort, and the two-byte field.
+#![tactic(auto)]
+
 ghost use Rattle.std.specs.Prelude.{◌≡◌, ◌+◌, ◌*◌, ◌<◌, length};
 ghost use Rattle.bsmp.specs.Base.{first};
 ghost use Rattle.bsmp.specs.Message.{no_payload, variable_at, group_id_at, curve_at, function_at};

@@ -1,5 +1,7 @@
 // The work of each entry on numbers, slices and plain structs: its ending is said in plain numbers, and variables and functions are named
 // by them.
+#![tactic(auto)]
+
 ghost use Rattle.std.specs.Prelude.{◌≡◌, true, false, pos};
 ghost use Rattle.rfc1321.specs.Md5.{digest};
 ghost use Rattle.records.specs.Lending.{records_by, records_of, groups_by};

@@ -1,4 +1,6 @@
 // Readings: a variable's bytes as a number, and a number as a variable's bytes, for every input.
+#![tactic(auto)]
+
 ghost use Rattle.std.specs.Prelude.{◌≡◌, true, false, pos, length};
 ghost use Rattle.bsmp.specs.Number.{wrong_kind, is_big, reading, writing};
 ghost use Rattle.records.specs.Lending.{records_by, records_of};

@@ -1,4 +1,6 @@
 // What a board lends, read as the definition's table.
+#![tactic(auto)]
+
 ghost use Rattle.std.specs.Prelude.{◌≡◌, true, ◌≤◌, ◌<◌, length, take, get_or};
 ghost use Rattle.bsmp.specs.Base.{every};
 ghost use Rattle.bsmp.specs.Board.{is_type, blank_curve, blank_function, usable_curves};

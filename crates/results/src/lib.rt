@@ -1,4 +1,6 @@
 // Three entries of a board, with nothing asked of the caller: a function's result, a board store, and a fresh board's lengths and sums.
+#![tactic(auto)]
+
 ghost use Rattle.std.specs.Prelude.{◌≡◌, true, ◌≤◌, length};
 ghost use Rattle.bsmp.specs.Base.{first};
 ghost use Rattle.bsmp.specs.Board.{layout, faults};

@@ -1,4 +1,6 @@
 // MD5 by RFC 1321: words, rounds, and a chunk of 64 bytes. The names are the RFC's where it has any.
+#![tactic(auto)]
+
 ghost use Rattle.std.specs.Prelude.{◌≡◌, suc, ◌+◌, ◌*◌, ◌%◌, ◌^◌, ◌<◌, ◌≤◌, length};
 ghost use Rattle.rfc1321.specs.Md5 as rfc;
 ghost use Rattle.rfc1321.specs.Md5.{◌⊞◌, ◌<<<◌, word, table, operation, operations, round1, round2, round3, round4, added, operated};

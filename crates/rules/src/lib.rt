@@ -1,4 +1,6 @@
 // Refusal 1, by kinds of record: whether a variable, curve, function or group breaks a rule of its own.
+#![tactic(auto)]
+
 ghost use Rattle.std.specs.Prelude.{◌≡◌, true, cond, ◌&&◌, [], ◌∷◌, ◌^◌, eqb, ltb, get_or};
 ghost use Rattle.bsmp.specs.Base.{every, some, within};
 ghost use Rattle.bsmp.specs.Codes.{kind_of};

@@ -1,4 +1,6 @@
 // A message: judged, carried out and answered. Nothing here knows of boards that can't be used, nor of packets.
+#![tactic(auto)]
+
 ghost use Rattle.std.specs.Prelude.{◌≡◌, true, ◌+◌, ◌≤◌, ◌<◌, length};
 ghost use Rattle.bsmp.specs.Message.{asked, said};
 ghost use Rattle.bsmp.specs.Store.{held};

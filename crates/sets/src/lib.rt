@@ -1,4 +1,6 @@
 // Sets of variables as marks: a group's set, what is marked, the lowest member, the set of IDs.
+#![tactic(auto)]
+
 ghost use Rattle.std.specs.Prelude.{◌≡◌, true, false, cond, ◌+◌, ◌-◌, ◌%◌, ◌^◌, ◌≤◌, ◌<◌, eqb, length};
 ghost use Rattle.bsmp.specs.Base.{every, some};
 ghost use Rattle.bsmp.specs.Board.{marked};

@@ -1,4 +1,6 @@
 // The sums of curves: 42 renews one, a fresh board has all of them, 0A reads one.
+#![tactic(auto)]
+
 ghost use Rattle.std.specs.Prelude.{◌≡◌, true, ◌+◌, ◌≤◌, ◌<◌, length, set, replicate};
 ghost use Rattle.bsmp.specs.Board.{block_sizes, usable_curves};
 ghost use Rattle.bsmp.specs.Message.{curve_at};

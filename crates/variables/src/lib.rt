@@ -1,4 +1,6 @@
 // The commands of one variable: 10 read, 20 write, 24 mask, 28 write and read, 02 list; and a board store.
+#![tactic(auto)]
+
 ghost use Rattle.std.specs.Prelude.{◌≡◌, true, false, [], ◌∷◌, ◌++◌, ◌+◌, ◌≤◌, ◌<◌, length, drop};
 ghost use Rattle.bsmp.specs.Base.{first, every, cut, byte_at};
 ghost use Rattle.bsmp.specs.Board.{usable_size};

@@ -1,4 +1,6 @@
 // Packets: opening one, and closing one.
+#![tactic(auto)]
+
 ghost use Rattle.std.specs.Prelude.{◌≡◌, ◌+◌, ◌≤◌, length};
 ghost use Rattle.bsmp.specs.Message.{message_of};
 ghost use Rattle.bsmp.specs.Packet.{usable_place, in_multicast, packed, frame};
