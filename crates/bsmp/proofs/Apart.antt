@@ -20,7 +20,7 @@ use Rattle.bsmp.specs.declared.Operation.{Operation}
 use Rattle.bsmp.proofs.Bools.{or_false, or_true, and_false}
 use Rattle.bsmp.proofs.Usable.{usable_by, faults_by}
 use Rattle.bsmp.proofs.Lists.{map_set, length_at, set_at, count_same, parts, every_by}
-use Rattle.bsmp.proofs.Hidden.{Hidden, step as hidden-step, before as Hidden-before}
+use Rattle.bsmp.proofs.Hiding.{Hidden, step as hidden-step, before as Hidden-before}
 
 -- numbers of variables
 pub other_number : (i v : VariableNumber) → is_same v i ≡ false → i ≢ v

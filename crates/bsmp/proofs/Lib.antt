@@ -8,7 +8,7 @@ pub mod Usable
 pub mod Marks
 pub mod Examples
 pub mod Steps
-pub mod Hidden
+pub mod Hiding
 pub mod Apart
 pub mod Stale
 pub mod Accepted

@@ -17,7 +17,7 @@ use Rattle.bsmp.specs.declared.Check.TheVariants.{Pass, Fail}
 use Rattle.bsmp.proofs.Bools.{and_false, not_so}
 use Rattle.bsmp.proofs.Usable.{usable_by}
 use Rattle.bsmp.proofs.Lists.{map_set, length_at, count_same}
-use Rattle.bsmp.proofs.Hidden.{Hidden, first_false, before}
+use Rattle.bsmp.proofs.Hiding.{Hidden, first_false, before}
 use Rattle.bsmp.proofs.Apart.{contents_same}
 
 -- what a block was written with is what it then holds, whatever stood there
