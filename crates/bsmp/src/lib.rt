@@ -60,6 +60,7 @@ impl Kind {
 
     pub const SIGNED_LITTLE: u8 = 4;
 
+    #[tactic(auto, unfolding(crate::specs::Codes::kind_of))]
     pub fn of(number: u8) -> Kind
         ensures { result ≡ kind_of number }
     {
@@ -110,6 +111,7 @@ impl Operation {
 
     pub const AND: u8 = 0x41;
 
+    #[tactic(auto, unfolding(crate::specs::Codes::operation_of))]
     pub fn of(code: u8) -> Operation
         ensures { result ≡ operation_of code }
     {
@@ -211,6 +213,7 @@ impl Command {
 
     pub const RUN_FUNCTION: u8 = 0x50;
 
+    #[tactic(auto, unfolding(crate::specs::Codes::command_of))]
     pub fn of(code: u8) -> Command
         ensures { result ≡ command_of code }
     {
