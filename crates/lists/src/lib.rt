@@ -36,6 +36,7 @@ pub fn offset(sizes: &[u8], n: usize) -> usize
 }
 
 // One byte, with the mask's bits on, off or inverted, or with only them kept.
+#[tactic(auto, unfolding(bsmp::specs::Message::operated))]
 pub fn masked_byte(op: Operation, x: u8, m: u8) -> u8
     ensures { result ≡ operated op x m }
 {
