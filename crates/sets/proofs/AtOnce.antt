@@ -116,9 +116,9 @@ every_half w (i ∷ is) = ap₂ ◌&&◌ (has_half w i.0) (every_half w is)
 
 every_digit : (a b : Bool) (s t u v w : ℕ) (is : List VariableNumber) → s ≡ u * 2 + min (bit a) (bit b) → t ≡ v * 2 + bit a
     → has w 0 ≡ b → eqb u v ≡ every (marked (w / 2)) is → eqb s t ≡ every (marked w) (cond a (variable 0 ∷ map next is) (map next is))
-every_digit true true s t u v w is p q g e = rw (g, every_half, ← e) (eqb_half 1 s t u v p q)
+every_digit true true s t u v w is p q g e = rw (g, every_half w is, ← e) (eqb_half 1 s t u v p q)
 every_digit true false s t u v w is p q g e = rw g (ne_eqb s t (λ (z : s ≡ t). omega (arith, z, p, q)))
-every_digit false b s t u v w is p q g e = rw (every_half, ← e) (eqb_half 0 s t u v (omega (arith, p)) q)
+every_digit false b s t u v w is p q g e = rw (every_half w is, ← e) (eqb_half 0 s t u v (omega (arith, p)) q)
 
 pub and_all : (n m w : ℕ) → m < 2 ^ n → eqb (bit_and m w) m ≡ every (marked w) (members_below m n)
 unfolding members_below
@@ -137,8 +137,8 @@ some_half w (i ∷ is) = ap₂ ◌||◌ (has_half w i.0) (some_half w is)
 some_digit : (a b : Bool) (s u w : ℕ) (is : List VariableNumber) → s ≡ u * 2 + min (bit a) (bit b)
     → has w 0 ≡ b → not (eqb u 0) ≡ some (marked (w / 2)) is → not (eqb s 0) ≡ some (marked w) (cond a (variable 0 ∷ map next is) (map next is))
 some_digit true true s u w is p g e = rw g (ap not (ne_eqb s 0 (λ (z : s ≡ 0). omega (arith, z, p))))
-some_digit true false s u w is p g e = rw (g, some_half, ← e) (ap not (eqb_half 0 s 0 u 0 p refl))
-some_digit false b s u w is p g e = rw (some_half, ← e) (ap not (eqb_half 0 s 0 u 0 (omega (arith, p)) refl))
+some_digit true false s u w is p g e = rw (g, some_half w is, ← e) (ap not (eqb_half 0 s 0 u 0 p refl))
+some_digit false b s u w is p g e = rw (some_half w is, ← e) (ap not (eqb_half 0 s 0 u 0 (omega (arith, p)) refl))
 
 pub and_some : (n m w : ℕ) → m < 2 ^ n → not (eqb (bit_and m w) 0) ≡ some (marked w) (members_below m n)
 unfolding members_below

@@ -40,13 +40,13 @@ bit_same true false h = absurd (omega (arith, h))
 bit_same false true h = absurd (omega (arith, h))
 bit_same false false h = refl
 
-bit_or : (a b c : Bool) → bit a ≡ max (bit b) (bit c) → a ≡ (b || c)
-bit_or true true c h = refl
-bit_or true false true h = refl
-bit_or true false false h = absurd (omega (arith, h))
-bit_or false true c h = absurd (omega (arith, h))
-bit_or false false true h = absurd (omega (arith, h))
-bit_or false false false h = refl
+bit_or_is : (a b c : Bool) → bit a ≡ max (bit b) (bit c) → a ≡ (b || c)
+bit_or_is true true c h = refl
+bit_or_is true false true h = refl
+bit_or_is true false false h = absurd (omega (arith, h))
+bit_or_is false true c h = absurd (omega (arith, h))
+bit_or_is false false true h = absurd (omega (arith, h))
+bit_or_is false false false h = refl
 
 -- marks below n, the other way round
 pub has_not : (n m k : ℕ) → m < 2 ^ n → k < n → has (2 ^ n - 1 - m) k ≡ not (has m k)
@@ -95,7 +95,7 @@ has_marks (b ∷ bs) =
 
 -- a union
 pub has_or : (a b k : ℕ) → has (bit_or a b) k ≡ (has a k || has b k)
-has_or a b zero = bit_or (has (bit_or a b) 0) (has a 0) (has b 0) (omega (arith, has_low (bit_or a b), or_step a b, has_low a, has_low b))
+has_or a b zero = bit_or_is (has (bit_or a b) 0) (has a 0) (has b 0) (omega (arith, has_low (bit_or a b), or_step a b, has_low a, has_low b))
 has_or a b (suc k) =
     has_half (bit_or a b) k ∙ ap (λ (x : ℕ). has x k) (or_shr a b 1) ∙ has_or (a / 2) (b / 2) k
     ∙ sym (ap₂ ◌||◌ (has_half a k) (has_half b k))
