@@ -1,0 +1,6 @@
+-- `fits_kind` meets its contract. Assumes nothing.
+use Rattle.rules.proofs.Checks.{fits_told}
+use Rattle.rules.proofs.fits_kind.Goals as goal
+
+pub returns : goal.returns
+returns c u = fits_told _ _ _ (c.fits_number.ensures u)

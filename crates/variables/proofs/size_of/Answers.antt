@@ -1,0 +1,10 @@
+-- `size_of` meets its contract. Assumes nothing.
+use native.Mathlib.Omega.{arith}
+use borrow.Author.Rules.{rules}
+use Rattle.variables.proofs.size_of.Goals as goal
+
+pub overflow_cast-result : goal.overflow_cast-result
+overflow_cast-result c = omega (arith, c.shared_slice_known-1.given c.args.i.0)
+
+pub returns : goal.returns
+returns c = (search rules, omega (arith, c.shared_slice_known-1.given c.args.i.0))
