@@ -2,6 +2,9 @@
 use Prim.Native.Nat.{◌-◌}
 use Rattle.rules.proofs.Checks.{refused_curves, curves_large}
 use Rattle.rules.proofs.Thirds.{stepped_start, stepped_index, curves_over, curves_cut, stepped_stop, stepped_next, stepped_mul, stepped_fits, stepped_count, stepped_sum, stepped_end}
+use mathlib.Core.Path.{ap}
+use mathlib.Core.Bool.{not}
+use borrow.Author.Rules.{rules}
 use Rattle.rules.proofs.usable_curves.Goals as goal
 
 pub returns-then-n-gt24 : goal.returns-then-n-gt24
@@ -23,7 +26,7 @@ pub overflow_add-bytes : goal.overflow_add-bytes
 overflow_add-bytes c = search (stepped_fits, rules)
 
 pub overflow_add-blocks : goal.overflow_add-blocks
-overflow_add-blocks c = stepped_count _ _ _ _ _ _ _ c.loop-i-test.true c.loop-i.invariant.1 c.usable_curve.ensures c.if-not-usable_curve.false c.if-n-gt24.false
+overflow_add-blocks c = stepped_count _ _ _ _ _ _ _ c.loop-i-test.true c.loop-i.invariant.1 c.usable_curve.ensures (ap not c.if-not-usable_curve.false) c.if-n-gt24.false
 
 pub loop-i-preserved : goal.loop-i-preserved
 loop-i-preserved c = (search rules, search (stepped_next, rules))

@@ -3,6 +3,7 @@ use Prim.Native.Nat.{◌-◌}
 use Rattle.records.proofs.Lending.{column_count}
 use Rattle.rules.proofs.Checks.{refused_total, variables_few, variables_many, variables_broken, variables_large}
 use Rattle.rules.proofs.Counting.{counted_start, total_fits, counted_stop, counted_next, counted_sum, counted_end}
+use borrow.Author.Rules.{rules}
 use Rattle.rules.proofs.usable_records.Goals as goal
 
 pub returns-then-count-lt1 : goal.returns-then-count-lt1

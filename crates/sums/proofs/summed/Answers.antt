@@ -1,0 +1,30 @@
+-- `summed` meets its contract: one walk over the blocks. Assumes nothing.
+use mathlib.Core.Logic.{⊎_elim}
+use Prim.Native.Nat.{◌-◌}
+use Rattle.sums.proofs.Summing.{summing_start, whole_inside, next_fits, own_fits, own_inside, own_add, full_next, short_next, summing_end}
+use borrow.Author.Rules.{rules}
+use Rattle.sums.proofs.summed.Goals as goal
+
+pub loop-i-init : goal.loop-i-init
+loop-i-init c = search (summing_start, rules)
+
+pub overflow_cast-count : goal.overflow_cast-count
+overflow_cast-count c = search (own_fits, rules)
+
+pub overflow_add-next : goal.overflow_add-next
+overflow_add-next c = search (next_fits, rules)
+
+pub overflow_add-at : goal.overflow_add-at
+overflow_add-at c = search (own_add, rules)
+
+pub slice_bounds-feed-end : goal.slice_bounds-feed-end
+slice_bounds-feed-end c = search (own_inside, rules)
+
+pub loop-i-preserved : goal.loop-i-preserved
+loop-i-preserved c = ⊎_elim (λ w. rw (w.4, w.5, w.6) (search (short_next, rules))) (λ w. rw (w.1, w.2, w.3) (search (full_next, rules))) c.if-count-size.branch
+
+pub slice_bounds-feed-end-2 : goal.slice_bounds-feed-end-2
+slice_bounds-feed-end-2 c = search (whole_inside, rules)
+
+pub returns : goal.returns
+returns c = search (summing_end, rules)
