@@ -1,9 +1,9 @@
 -- `summed` meets its contract: one walk over the blocks. Assumes nothing.
-use mathlib.Core.Logic.{⊎_elim}
 use Prim.Native.Nat.{◌-◌}
 use Rattle.sums.proofs.Summing.{summing_start, whole_inside, next_fits, own_fits, own_inside, own_add, full_next, short_next, summing_end}
 use borrow.Author.Rules.{rules}
 use Rattle.sums.proofs.summed.Goals as goal
+use Rattle.sums.proofs.summed.Goals.{then-count-size, else-count-size}
 
 pub loop-i-init : goal.loop-i-init
 loop-i-init c = search (summing_start, rules)
@@ -21,7 +21,11 @@ pub slice_bounds-feed-end : goal.slice_bounds-feed-end
 slice_bounds-feed-end c = search (own_inside, rules)
 
 pub loop-i-preserved : goal.loop-i-preserved
-loop-i-preserved c = ⊎_elim (λ w. rw (w.4, w.5, w.6) (search (short_next, rules))) (λ w. rw (w.1, w.2, w.3) (search (full_next, rules))) c.if-count-size.branch
+loop-i-preserved c =
+    elim c.if-count-size.branch [
+      then-count-size w ↦ rw (w.buffer-is, w.progress-is, w.from-is) (search (short_next, rules))
+    | else-count-size w ↦ rw (w.buffer-is, w.progress-is, w.from-is) (search (full_next, rules))
+    ]
 
 pub slice_bounds-feed-end-2 : goal.slice_bounds-feed-end-2
 slice_bounds-feed-end-2 c = search (whole_inside, rules)
