@@ -9,27 +9,27 @@ use Rattle.answers.proofs.answer.Goals as goal
 
 pub show-requires : goal.show-requires
 unfolding line spoken variable_list group_list curve_list function_list members writable_group
-show-requires c = (search rules, (search (show_needs, rules), search rules))
+show-requires c = record { sizes_len_bound = search rules; group_known = search (show_needs, rules); at_in_bounds = search rules }
 
 pub tell-requires : goal.tell-requires
 unfolding line spoken variable_list group_list curve_list function_list members writable_group
-tell-requires c = (search rules, (search (read_some_needs, rules), search (read_known_needs, rules), search rules))
+tell-requires c = record { sound = search rules; j_in_bounds = (search (read_some_needs, rules), search (read_known_needs, rules), search rules) }
 
 pub tell-requires-in-ReadGroup : goal.tell-requires-in-ReadGroup
 unfolding line spoken variable_list group_list curve_list function_list members writable_group
-tell-requires-in-ReadGroup c = (search rules, (search (group_read_needs, rules), search rules))
+tell-requires-in-ReadGroup c = record { sound = search rules; group_known = search (group_read_needs, rules); at_in_bounds = search rules }
 
 pub tell-requires-in-WriteRead : goal.tell-requires-in-WriteRead
 unfolding line spoken variable_list group_list curve_list function_list members writable_group
-tell-requires-in-WriteRead c = (search rules, (search (second_some_needs, rules), search (second_known_needs, rules), search rules))
+tell-requires-in-WriteRead c = record { sound = search rules; j_in_bounds = (search (second_some_needs, rules), search (second_known_needs, rules), search rules) }
 
 pub tell-requires-in-ReadBlock : goal.tell-requires-in-ReadBlock
 unfolding line spoken variable_list group_list curve_list function_list members writable_group
-tell-requires-in-ReadBlock c = (search rules, (search (block_read_needs, rules), search rules))
+tell-requires-in-ReadBlock c = record { sound_curves = search rules; block_read = search (block_read_needs, rules); at_in_bounds = search rules }
 
 pub tell_sum-requires : goal.tell_sum-requires
 unfolding line spoken variable_list group_list curve_list function_list members writable_group
-tell_sum-requires c = (search (sum_needs, rules), search rules)
+tell_sum-requires c = record { sum_named = search (sum_needs, rules); at_in_bounds = search rules }
 
 pub run-requires : goal.run-requires
 unfolding line spoken variable_list group_list curve_list function_list members writable_group

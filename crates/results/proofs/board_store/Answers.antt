@@ -7,7 +7,7 @@ pub slice_bounds-store-end : goal.slice_bounds-store-end
 slice_bounds-store-end c = search (store_counted, rules)
 
 pub store-requires : goal.store-requires
-store-requires c = (search (store_sound, rules), (search store_known, search (store_whole, rules)))
+store-requires c = record { sound = search (store_sound, rules); i_in_bounds = (search store_known, search (store_whole, rules)) }
 
 pub returns-in-Refuse : goal.returns-in-Refuse
 returns-in-Refuse c = search (store_refused, rules)
