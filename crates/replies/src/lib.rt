@@ -95,6 +95,7 @@ fn is_error(code: u8, payload: &[u8]) -> bool
 }
 
 // The error of a code from E1 to E8.
+#[tactic(auto, unfolding(asking::specs::Reply::error_of))]
 fn error_of(code: u8) -> WireError
     ensures { result ≡ error_of code }
 {
