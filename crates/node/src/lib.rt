@@ -108,11 +108,11 @@ fn answer(
     requires fact { let l = typed_layout sizes.now types.now curves.now functions.now in
         SoundBoard l (lent values.old blocks.old lengths.old sums.old groups.now) × SoundTypes types.now }
     requires in_bounds { 4104 ≤ length reply.old }
-    ensures* { λ r. let l = typed_layout sizes.now types.now curves.now functions.now in
+    ensures { let l = typed_layout sizes.now types.now curves.now functions.now in
         let x = lent values.old blocks.old lengths.old sums.old groups.now in
         let y = lent values.new blocks.new lengths.new sums.new groups.now in
-        let result = served l busy due message.now (held l x) in
-        ⌜ EndsAs result l reply.old r.outcome r.regroup reply.new y ⌝ }
+        let meant = served l busy due message.now (held l x) in
+        EndsAs meant l reply.old result.outcome result.regroup reply.new y }
 {
     let served = serve::serve(
         due, sizes, types, curves, functions, groups, values, blocks, lengths, sums, message, busy,
@@ -146,13 +146,13 @@ fn lend(
     requires fact { let records = records_by count types.now sizes.now kinds.now in
         BoardReady records curves.now functions.now (groups_by made sets.now) values.old blocks.old lengths.old sums.old }
     requires in_bounds { (2 ≤ length request.now) × (4104 ≤ length reply.old) }
-    ensures* { λ r. let records = records_by count types.now sizes.now kinds.now in
+    ensures { let records = records_by count types.now sizes.now kinds.now in
         let l = layout (table_of records curves.now functions.now) in
         let groups = groups_of (groups_by made sets.now) in
         let x = lent values.old blocks.old lengths.old sums.old groups in
         let y = lent values.new blocks.new lengths.new sums.new groups in
-        let result = served l busy due (message request.now) (held l x) in
-        ⌜ EndsAs result l reply.old r.outcome r.regroup reply.new y ⌝ }
+        let meant = served l busy due (message request.now) (held l x) in
+        EndsAs meant l reply.old result.outcome result.regroup reply.new y }
 {
     let groups = made as usize;
     let end = request.len() - 1;
@@ -322,12 +322,13 @@ pub fn packet(
     request: &[u8],
     reply: &mut [u8],
 ) -> Done
-    ensures* { λ r. let records = records_by count writable.now sizes.now kinds.now in
+    ensures { let records = records_by count writable.now sizes.now kinds.now in
         let t = table_of records curves.now functions.now in
         let groups = groups_by made sets.old in
         let s = held (layout t) (lent values.old blocks.old lengths.old sums.old (groups_of groups)) in
-        let result = packet t (placed own multicast) busy (length reply.old) request.now s in
-        ⌜ packet_left r sets.new reply.new values.new blocks.new lengths.new sums.new ≡ packet_left_of result reply.old groups ⌝ }
+        let meant = packet t (placed own multicast) busy (length reply.old) request.now s in
+        packet_left result sets.new reply.new values.new blocks.new lengths.new sums.new
+        ≡ packet_left_of meant reply.old groups }
 {
     let h = carry(
         count, writable, sizes, kinds, curves, functions, made, sets, own, multicast, busy, values,

@@ -7,5 +7,5 @@ pub close-outcome-requires : goal.close-outcome-requires
 close-outcome-requires c = search (closable, rules)
 
 pub returns : goal.returns
-returns c = let room = c.requires.1 in
+returns c = let room = c.requires.in_bounds in
     answer_ends _ _ _ _ _ _ _ _ _ _ _ _ room c.serve-served.ensures c.close-outcome.ensures

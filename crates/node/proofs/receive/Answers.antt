@@ -13,8 +13,8 @@ pub returns-in_default : goal.returns-in_default
 returns-in_default c = search (carried_unopened, rules)
 
 pub lend-requires : goal.lend-requires
-lend-requires c = (search (board_ready, rules), (search (message_least, rules), search (message_room, rules)))
+lend-requires c = record { fact = search (board_ready, rules); in_bounds = (search (message_least, rules), search (message_room, rules)) }
 
 pub returns : goal.returns
 returns c = let tested = c.requires in
-    carried_served _ _ _ _ _ _ _ _ _ _ _ _ _ _ _ _ tested (ap not c.if-not-usable.false) _ c.«open».ensures _ _ _ (search rules) c.lend.ensures
+    carried_served _ _ _ _ _ _ _ _ _ _ _ _ _ _ _ _ tested (ap not c.if-not-usable.false) _ c.open-o.ensures _ _ _ (search rules) c.lend.ensures

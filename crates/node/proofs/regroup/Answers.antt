@@ -8,7 +8,7 @@ pub create-group-requires : goal.create-group-requires
 create-group-requires c = search (group_room, rules)
 
 pub offset_bounds-sets-place : goal.offset_bounds-sets-place
-offset_bounds-sets-place c = omega (arith, new_place _ _ _ c.requires _ _ _ c.r-1.given.1 c.create-group.ensures)
+offset_bounds-sets-place c = omega (arith, new_place _ _ _ c.requires _ _ _ c.in-Make.is c.create-group.ensures)
 
 pub bounds-sets-place : goal.bounds-sets-place
 bounds-sets-place c = search (new_place, rules)

@@ -4,4 +4,4 @@ use Rattle.node.specs.Promise.{unopened_of}
 use Rattle.node.proofs.unopened.Goals as goal
 
 pub returns-in-Refused : goal.returns-in-Refused
-returns-in-Refused c = sym (ap unopened_of c.o-1.given.1)
+returns-in-Refused c = sym (ap unopened_of c.in-Refused.is)
