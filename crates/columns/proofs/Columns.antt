@@ -51,6 +51,13 @@ backwards_on r vs i (suc k) =
     let o : i + suc k ≡ suc (i + k) = omega arith in
     rw o (backwards_last (columns_to r vs i) vs i k ∙ ap (λ (t : Records). with_record t (i + k) (variable_at vs (i + k))) (backwards_on r vs i k))
 
+-- one of them
+pub one_more : (r : Records) (vs : List Variable) (i : ℕ) → with_record (columns_to r vs i) i (variable_at vs i) ≡ columns_to r vs (i + 1)
+unfolding columns_to
+one_more r vs i =
+    let o : i + 1 ≡ suc i = omega arith in
+    rw o
+
 -- four of them
 pub four_more : (r : Records) (vs : List Variable) (i : ℕ)
     → with_record (with_record (with_record (with_record (columns_to r vs i) (i + 3) (variable_at vs (i + 3))) (i + 2) (variable_at vs (i + 2))) (i + 1) (variable_at vs (i + 1))) i (variable_at vs i) ≡ columns_to r vs (i + 4)
