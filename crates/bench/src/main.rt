@@ -383,7 +383,7 @@ fn run(
 }
 
 fn main(rt: HostRuntime) {
-    let mut input = rt.reader();
+    let mut input = rt.stdin();
     let mut buf = [0u8; 131072];
     let mut values = [0xFFu8, 0xFF, 0xFF, 0xFD, 0x5A, 0x34, 0x12];
     let mut blocks = [0u8; 8];
