@@ -16,13 +16,10 @@ if [ $# -eq 1 ]; then
     exec <"$1"
 fi
 cd "$(dirname "$(readlink -f "$0")")"
-tools/prove bench.sh check bench </dev/null >/dev/null || exit 1
+tools/prove bench.sh run bench </dev/null >/dev/null || exit 1
 
-tools=$(dirname "$(dirname "$(rt doc)")")/on/$(uname -m)/toolchain
-emulator=$tools/bin/qemu-x86_64
-[ -x "$emulator" ] || emulator=''
-# The program has no status of its own: what it couldn't read or write it says on standard error.
+# The program ends with 0 whatever it meets: what it couldn't read or write it says on standard error.
 said=$(mktemp)
 trap 'rm -f "$said"' EXIT
-${emulator:+"$emulator"} "$tools/lib/ld-linux-x86-64.so.2" --library-path "$tools/lib" target/bin/bench 2>"$said" || stop 1 "the program ended with $?"
+crates/bench/out/bench 2>"$said" || stop 1 "the program ended with $?"
 [ ! -s "$said" ] || { sort -u "$said" >&2; exit 1; }

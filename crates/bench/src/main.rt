@@ -6,6 +6,7 @@ ghost use Rattle.std.specs.Prelude.{◌≡◌, ◌+◌, ◌*◌, ◌<◌, ◌≤
 use bsmp::Outcome;
 use records::{Groups, Records};
 use results::Stored;
+use std::io::Read;
 
 // Board A's variables: 0 read-only, signed big endian; 1 writable, plain; 2 writable, unsigned little endian.
 fn variables() -> Records {
@@ -28,14 +29,14 @@ fn variables() -> Records {
 }
 
 // How a packet ended, and the group table after it.
-#[derive(Clone, Copy)]
+#[derive(Drop)]
 struct Ended {
     outcome: Outcome,
     groups: Groups,
 }
 
 // How long a packet's line is, and the group table after it.
-#[derive(Clone, Copy)]
+#[derive(Drop)]
 struct Turned {
     size: usize,
     groups: Groups,
@@ -85,8 +86,13 @@ fn answered(
     Ended { outcome, groups }
 }
 
+// A line on standard error; where that can't be written either, nobody is left to tell.
+fn say(rt: &impl Eprint, line: &str) {
+    let _ = rt.eprintln(line);
+}
+
 // Board A's lengths and sums, before the first packet.
-fn fresh(values: &[u8], blocks: &[u8], lengths: &mut [u16], sums: &mut [u8]) {
+fn fresh(rt: &impl Eprint, values: &[u8], blocks: &[u8], lengths: &mut [u16], sums: &mut [u8]) {
     let records = variables();
     let writable = records.writable;
     let sizes = records.sizes;
@@ -110,9 +116,7 @@ fn fresh(values: &[u8], blocks: &[u8], lengths: &mut [u16], sums: &mut [u8]) {
     );
     match started {
         Stored::Done => {}
-        Stored::Refused(_) => {
-            io::write_all(2, b"bench: its board is refused\n");
-        }
+        Stored::Refused(_) => say(rt, "bench: its board is refused"),
     }
 }
 
@@ -141,20 +145,20 @@ fn one(
     }
 }
 
-// Lines to standard output. What can't be written is said on standard error, since a program here has no status of its own.
-fn put(lines: &[u8]) {
-    if !io::write_all(1, lines) {
-        io::write_all(2, b"bench: its output can't be written\n");
+// Lines to standard output. Where they can't be written, it says so on standard error and goes on.
+fn put(rt: &(impl Print + Eprint), lines: &[u8]) {
+    if rt.write_all(lines).is_err() {
+        say(rt, "bench: its output can't be written");
     }
 }
 
 // Writes out[..o] where less than a line's room is left, and answers where the next line goes.
-fn room(out: &[u8], o: usize) -> usize
+fn room(rt: &(impl Print + Eprint), out: &[u8], o: usize) -> usize
     requires { (o ≤ length out.now) × (9000 ≤ length out.now) }
     ensures { (result + 9000 ≤ length out.now) × (result + 9000 < 18446744073709551616) }
 {
     if out.len() - o < 9000 {
-        put(&out[0..o]);
+        put(rt, &out[0..o]);
         return 0;
     }
     o
@@ -176,7 +180,7 @@ fn whole(buf: &[u8], at: usize, have: usize) -> usize
 }
 
 // How far the records of a buffer came: the input and the output that are used up, the next record's number, the group table.
-#[derive(Clone, Copy)]
+#[derive(Drop)]
 struct Place {
     at: usize,
     used: usize,
@@ -186,6 +190,7 @@ struct Place {
 
 // The record of `size` bytes at p.
 fn step(
+    rt: &(impl Print + Eprint),
     buf: &[u8],
     size: usize,
     p: Place,
@@ -202,7 +207,7 @@ fn step(
 {
     let from = p.at + 2;
     let next = p.at + size;
-    let to = room(out, p.used);
+    let to = room(rt, out, p.used);
     let g = p.groups;
     let t = one(
         p.number,
@@ -219,13 +224,14 @@ fn step(
     Place {
         at: next,
         used: to + t.size,
-        number: std::num::wrapping_add_u64(p.number, 1),
+        number: p.number.wrapping_add(1),
         groups: after,
     }
 }
 
 // Every whole record of buf[..have].
 fn drain(
+    rt: &(impl Print + Eprint),
     buf: &[u8],
     have: usize,
     number: u64,
@@ -248,12 +254,12 @@ fn drain(
     };
     let mut size = whole(buf, 0, have);
     while 2 <= size {
-        p = step(buf, size, p, values, blocks, lengths, sums, reply, out);
+        p = step(rt, buf, size, p, values, blocks, lengths, sums, reply, out);
         let at = p.at;
         size = whole(buf, at, have);
     }
     let used = p.used;
-    put(&out[0..used]);
+    put(rt, &out[0..used]);
     p
 }
 
@@ -269,25 +275,28 @@ fn shift(buf: &mut [u8], at: usize, have: usize)
     }
 }
 
-fn fill(part: &mut [u8]) -> usize
+// One read. Where the input can't be read, it says so on standard error and goes on as at its end.
+fn fill(rt: &impl Eprint, input: &mut impl Read, part: &mut [u8]) -> usize
     ensures { result ≤ length part.old }
 {
-    let got = libc::read(0, part);
-    if got < 0 {
-        io::write_all(2, b"bench: its input can't be read\n");
+    match input.read(part) {
+        Ok(n) => n,
+        Err(_) => {
+            say(rt, "bench: its input can't be read");
+            0
+        }
     }
-    io::count(got, part)
 }
 
-fn cut(number: u64, out: &mut [u8])
+fn cut(rt: &(impl Print + Eprint), number: u64, out: &mut [u8])
     requires { 9000 ≤ length out.old }
 {
     let a = text::put_number(out, 0, number);
     let b = text::put_text(out, a, b" cut\n");
-    put(&out[0..b]);
+    put(rt, &out[0..b]);
 }
 
-#[derive(Clone, Copy)]
+#[derive(Drop)]
 struct Next {
     go: bool,
     have: usize,
@@ -297,6 +306,8 @@ struct Next {
 
 // One read, and all that it completes.
 fn turn(
+    rt: &(impl Print + Eprint),
+    input: &mut impl Read,
     buf: &mut [u8],
     have: usize,
     number: u64,
@@ -311,10 +322,10 @@ fn turn(
     requires { (have ≤ length buf.old) × (length reply.old ≡ 4104) × (9000 ≤ length out.old) }
     ensures { result.have ≤ length buf.old }
 {
-    let n = fill(&mut buf[have..]);
+    let n = fill(rt, input, &mut buf[have..]);
     if n == 0 {
         if 0 < have {
-            cut(number, out);
+            cut(rt, number, out);
         }
         return Next {
             go: false,
@@ -325,7 +336,7 @@ fn turn(
     }
     let all = have + n;
     let p = drain(
-        buf, all, number, groups, values, blocks, lengths, sums, reply, out,
+        rt, buf, all, number, groups, values, blocks, lengths, sums, reply, out,
     );
     let at = p.at;
     shift(buf, at, all);
@@ -340,6 +351,8 @@ fn turn(
 
 // Each turn reads a byte or more, and no input has 2^64.
 fn run(
+    rt: &(impl Print + Eprint),
+    input: &mut impl Read,
     buf: &mut [u8],
     values: &mut [u8],
     blocks: &mut [u8],
@@ -356,21 +369,21 @@ fn run(
     };
     let mut have: usize = 0;
     let mut number: u64 = 1;
-    let mut turns = u64::MAX;
-    let mut go = true;
-    while 0 < turns && go {
+    for _ in 0..u64::MAX {
         let r = turn(
-            buf, have, number, groups, values, blocks, lengths, sums, reply, out,
+            rt, input, buf, have, number, groups, values, blocks, lengths, sums, reply, out,
         );
         have = r.have;
         number = r.number;
         groups = r.groups;
-        go = r.go;
-        turns -= 1;
+        if !r.go {
+            break;
+        }
     }
 }
 
-fn main() {
+fn main(rt: HostRuntime) {
+    let mut input = rt.stdin();
     let mut buf = [0u8; 131072];
     let mut values = [0xFFu8, 0xFF, 0xFF, 0xFD, 0x5A, 0x34, 0x12];
     let mut blocks = [0u8; 8];
@@ -378,8 +391,10 @@ fn main() {
     let mut sums = [0u8; 16];
     let mut reply = [0u8; 4104];
     let mut out = [0u8; 131072];
-    fresh(&values, &blocks, &mut lengths, &mut sums);
+    fresh(&rt, &values, &blocks, &mut lengths, &mut sums);
     run(
+        &rt,
+        &mut input,
         &mut buf,
         &mut values,
         &mut blocks,
