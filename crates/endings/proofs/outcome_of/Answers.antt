@@ -3,13 +3,13 @@ use mathlib.Core.Path.{refl}
 use Rattle.endings.proofs.outcome_of.Goals as goal
 
 pub returns-in-Reply : goal.returns-in-Reply
-returns-in-Reply c = rw c.outcome-1.given.1 (refl)
+returns-in-Reply c = rw c.in-Reply.is (refl)
 
 pub returns-in-Silence : goal.returns-in-Silence
 returns-in-Silence c = rw c.in-Silence.is (refl)
 
 pub returns-in-Run : goal.returns-in-Run
-returns-in-Run c = rw c.outcome-in-Run-1.given.1 (refl)
+returns-in-Run c = rw c.in-Run.is (refl)
 
 pub returns-in-Refused : goal.returns-in-Refused
-returns-in-Refused c = rw c.outcome-in-Refused-1.given.1 (simp c.number.ensures (refl))
+returns-in-Refused c = rw c.in-Refused.is (simp c.number.ensures (refl))

@@ -9,4 +9,4 @@ pub returns-in-Is : goal.returns-in-Is
 returns-in-Is c = search (signed_plain, to_z-of_z, rules)
 
 pub returns-in-Refused : goal.returns-in-Refused
-returns-in-Refused c = rw c.reading-in-Refused-1.given.1 (simp c.number.ensures (refl))
+returns-in-Refused c = rw c.in-Refused.is (simp c.number.ensures (refl))

@@ -3,7 +3,7 @@ use mathlib.Core.Path.{refl}
 use Rattle.endings.proofs.unsigned_of.Goals as goal
 
 pub returns-in-Is : goal.returns-in-Is
-returns-in-Is c = rw c.reading-1.given.1 (refl)
+returns-in-Is c = rw c.in-Is.is (refl)
 
 pub returns-in-Refused : goal.returns-in-Refused
-returns-in-Refused c = rw c.reading-in-Refused-1.given.1 (simp c.number.ensures (refl))
+returns-in-Refused c = rw c.in-Refused.is (simp c.number.ensures (refl))
