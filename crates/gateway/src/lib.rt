@@ -50,6 +50,7 @@ enum Mask {
     Nothing,
 }
 
+#[tactic(auto, unfolding(crate::specs::Plain::mask_of))]
 fn mask_of(code: u8) -> Mask
     ensures { result ≡ mask_of code }
 {
@@ -89,6 +90,7 @@ fn mask_group(g: GroupNumber, mask: Mask) -> Named
     }
 }
 
+#[tactic(auto, unfolding(crate::specs::Plain::named_of))]
 fn request_of(code: u8, operation: u8, number: usize, other: usize, block: usize) -> Named
     ensures { result ≡ named_of code operation number other block }
 {
