@@ -17,7 +17,6 @@ use Rattle.bsmp.specs.declared.CurveNumber.{CurveNumber}
 use Rattle.bsmp.proofs.Bools.{and_true, all_at}
 use Rattle.bsmp.proofs.Lists.{map_map, every_at, length_up_from, map_numbers}
 use Rattle.bsmp.proofs.Marks.{at_number}
-use Rattle.bsmp.proofs.Store.{same_refl}
 use Rattle.bsmp.proofs.Usable.{usable_parts, sizes_usable}
 use Rattle.bsmp.proofs.Stays.{block_size, sum_length}
 use Rattle.bsmp.proofs.Lengths.{in_range_lem as lengths-in-range, content_length, place_known}

@@ -6,15 +6,13 @@ use Prim.Native.Nat.{ℕ, ◌≤◌, ◌<◌}
 use borrow.Author.Tests.{lt-ltb, le-ltb}
 use lib.ListN.{length}
 use Rattle.bsmp.specs.Base.{first}
-use Rattle.bsmp.specs.Codes.{error_code, refusal_number}
+use Rattle.bsmp.specs.Codes.{error_code}
 use Rattle.bsmp.specs.declared.WireError.{WireError}
 use Rattle.bsmp.specs.declared.Refusal.{Refusal}
 use Rattle.bsmp.specs.declared.Refusal.TheVariants.{BadAddress, ReplyBufferShort, ReplyUnfit, RequestUnwritable}
 use Rattle.bsmp.proofs.Chain.{first_map}
 use Rattle.asking.specs.Request.{is_address, asking}
 use Rattle.asking.specs.Learned.{Learned}
-use Rattle.asking.specs.Reply.{hearing, told_of}
-use Rattle.asking.specs.Learning.{learning}
 use Rattle.asking.specs.declared.Request.{Request}
 use Rattle.asking.specs.declared.Asked.{Asked}
 use Rattle.asking.specs.declared.Asked.TheVariants as A

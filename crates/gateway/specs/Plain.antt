@@ -1,5 +1,5 @@
 -- The asking side in plain numbers: a request by its code and numbers, what is written and heard by kinds and places. Assumes nothing.
-use Rattle.std.specs.Prelude.{true, not, List, [], ◌∷◌, ℕ, length}
+use Rattle.std.specs.Prelude.{not, List, [], ◌∷◌, ℕ, length}
 use Rattle.bsmp.specs.Base.{Test, test, first}
 use Rattle.bsmp.specs.Codes.{coded, error_code, refusal_number}
 use Rattle.bsmp.specs.Board.{variable, group, curve, function}
@@ -8,13 +8,11 @@ use Rattle.bsmp.specs.declared.VariableNumber.{VariableNumber}
 use Rattle.bsmp.specs.declared.GroupNumber.{GroupNumber}
 use Rattle.bsmp.specs.declared.Refusal.{Refusal}
 use Rattle.bsmp.specs.declared.Refusal.TheVariants.{BadAddress, ReplyBufferShort, ReplyUnfit, RequestUnwritable}
-use Rattle.asking.specs.Request.{is_address, Asking, request, asking}
+use Rattle.asking.specs.Request.{is_address, Asking, asking}
 use Rattle.asking.specs.Learned.{Learned}
 use Rattle.asking.specs.Reply.{Hearing, hearing, told_of}
 use Rattle.asking.specs.Learning.{learning}
-use Rattle.asking.specs.declared.Masking.{Masking}
 use Rattle.asking.specs.declared.Masking.TheVariants.{Set, Or, Clear, Toggle, Xor, And}
-use Rattle.asking.specs.declared.Request.{Request}
 use Rattle.asking.specs.declared.Request.TheVariants.{Version, ListVariables, ListGroups, ShowGroup, ListCurves, ReadSum, ListFunctions, ReadVariable, ReadGroup, WriteVariable, WriteGroup}
 use Rattle.asking.specs.declared.Request.TheVariants.{MaskVariable, MaskGroup, WriteRead, MakeGroup, RemoveGroups, ReadBlock, WriteBlock, RenewSum, RunFunction}
 use Rattle.asking.specs.declared.Asked.{Asked}

@@ -1,8 +1,8 @@
 -- A group put at its place in the table, the next one included, or left out where it can't be. Assumes nothing.
 use mathlib.Core.Path.{◌≡◌, refl, sym, ap, ap₂, ◌∙◌}
-use mathlib.Core.Bool.{Bool, true, false, cond, not, ◌&&◌, true≢false}
+use mathlib.Core.Bool.{Bool, true, false, not, ◌&&◌, true≢false}
 use mathlib.Core.List.{List, [], ◌∷◌, ◌++◌, map}
-use Prim.Native.Nat.{ℕ, zero, suc, ◌+◌, ◌-◌, ◌≤◌, ◌<◌, min}
+use Prim.Native.Nat.{ℕ, suc, ◌+◌, ◌-◌, ◌≤◌, ◌<◌}
 use native.Mathlib.Omega.{arith}
 use native.Mathlib.Numerals.{add-one}
 use native.Mathlib.Decide.{ℕ_discrete}
@@ -11,7 +11,7 @@ use lib.Dec.{leb, ltb}
 use lib.ListN.{length, take, drop, get_or, set, length-map, length-set}
 use lib.Seq.{ext_get_or, get_or-set_same, get_or-set_other, take-suc-set}
 use Rattle.bsmp.specs.Base.{every}
-use Rattle.bsmp.specs.Board.{variable, group, Layout, set_of}
+use Rattle.bsmp.specs.Board.{variable, Layout, set_of}
 use Rattle.bsmp.specs.Message.{no_variable}
 use Rattle.bsmp.specs.declared.GroupNumber.{GroupNumber}
 use Rattle.bsmp.proofs.Lists.{every_at}
@@ -22,7 +22,7 @@ use Rattle.records.proofs.Lending.{made_count, made_at, groups_lent}
 use Rattle.sets.specs.Promises.{Below, Named}
 use Rattle.sets.proofs.Ids.{below_more}
 use Rattle.asking.specs.Learned.{Learned}
-use Rattle.asking.specs.Learning.{can_group, regrouped, shown_groups}
+use Rattle.asking.specs.Learning.{can_group, regrouped}
 use Rattle.asking.proofs.Follows.{regrouped_at, regrouped_last}
 use Rattle.learning.specs.Taking.{Regrouped, Shown}
 use Rattle.learning.proofs.Taking.{known_ids}

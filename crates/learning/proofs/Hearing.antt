@@ -13,15 +13,15 @@ use Rattle.bsmp.specs.Board.{group, curve_rules, usable_curves, usable_functions
 use Rattle.bsmp.specs.Packet.{message, gave, failed}
 use Rattle.bsmp.proofs.Bools.{and_true, all_at}
 use Rattle.asking.specs.Learned.{Learned, size_rules, usable_sizes, slot_of, fits_count, curves_from, functions_from}
-use Rattle.asking.specs.Reply.{Wanted, wanted, Heard, is_error, is_done, is_version, is_variables, is_groups, is_members, is_curves, is_functions, is_values, is_block, is_sum, is_result}
-use Rattle.asking.specs.Reply.{error_reply, error_of, answers, tells, is_whole, heard_in, Hearing, hears, hearing, told_of}
+use Rattle.asking.specs.Reply.{Wanted, wanted, is_error, is_done, is_version, is_variables, is_groups, is_members, is_curves, is_functions, is_values, is_block, is_sum, is_result}
+use Rattle.asking.specs.Reply.{error_reply, error_of, answers, tells, is_whole, Hearing, hears, hearing, told_of}
 use Rattle.asking.specs.Learning.{taught, learning}
 use Rattle.asking.specs.declared.Request.{Request}
 use Rattle.asking.specs.declared.Request.TheVariants.{Version, ListVariables, ListGroups, ShowGroup, ListCurves, ReadSum, ListFunctions, ReadVariable, ReadGroup, WriteVariable, WriteGroup}
 use Rattle.asking.specs.declared.Request.TheVariants.{MaskVariable, MaskGroup, WriteRead, MakeGroup, RemoveGroups, ReadBlock, WriteBlock, RenewSum, RunFunction}
 use Rattle.asking.specs.declared.Told.{Told}
 use Rattle.asking.proofs.Lists.{between}
-use Rattle.asking.proofs.Frames.{Taken, taken}
+use Rattle.asking.proofs.Frames.{taken}
 use Rattle.asking.proofs.Places.{payload_place}
 use Rattle.learning.specs.Taking.{is_told, Answers, taught_by, heard_left, heard_of}
 

@@ -1,19 +1,19 @@
 -- The lists taken into the table's places, a turn of each walk and its end. Assumes nothing.
-use mathlib.Core.Path.{◌≡◌, refl, sym, ap, ap₂, ◌∙◌}
-use mathlib.Core.Bool.{Bool, true, false, cond, ◌&&◌}
-use mathlib.Core.List.{List, [], ◌∷◌, ◌++◌, map}
-use Prim.Native.Nat.{ℕ, zero, suc, ◌+◌, ◌-◌, ◌*◌, ◌/◌, ◌%◌, ◌^◌, ◌≤◌, ◌<◌}
+use mathlib.Core.Path.{◌≡◌, refl, sym, ap, ◌∙◌}
+use mathlib.Core.Bool.{Bool, true, false}
+use mathlib.Core.List.{List, [], ◌∷◌, map}
+use Prim.Native.Nat.{ℕ, suc, ◌+◌, ◌-◌, ◌*◌, ◌/◌, ◌%◌, ◌^◌, ◌≤◌, ◌<◌}
 use native.Mathlib.Omega.{arith}
 use native.Mathlib.Numerals.{add-one}
 use native.Mathlib.Nat.{pow-le-pow_right}
 use native.Mathlib.Nat.{two-pow-succ}
-use borrow.Author.Tests.{le-leb, lt-leb, lt-ltb, le-ltb, leb-true, leb-false, ltb-true}
+use borrow.Author.Tests.{lt-ltb, le-ltb, leb-true, leb-false}
 use mir.Syntax.{w64}
 use mir.Val.{Fits}
 use lib.Dec.{leb, ltb, lit<}
-use lib.ListN.{length, take, drop, get_or, set, length-map, length-set, length-drop, get_or-map, drop_of_length-le}
+use lib.ListN.{length, drop, get_or, set, length-map, length-set, length-drop, get_or-map, drop_of_length-le}
 use lib.Seq.{drop-cons}
-use Rattle.bsmp.specs.Base.{every, join, bit, marks_of}
+use Rattle.bsmp.specs.Base.{every, bit, marks_of}
 use Rattle.bsmp.proofs.Marks.{marks_below}
 use Rattle.copies.specs.Put.{put}
 use Rattle.bsmp.specs.declared.Curve.{Curve}

@@ -1,12 +1,11 @@
 -- What an answer teaches, request by request: the table's places after it are the definition's table. Assumes nothing.
 use mathlib.Core.Path.{◌≡◌, refl, sym, ap, ap₂, ◌∙◌}
-use mathlib.Core.Bool.{Bool, true, false, cond}
 use mathlib.Core.List.{List, [], ◌∷◌, ◌++◌, map}
 use Prim.Native.Nat.{ℕ, zero, suc, ◌+◌, ◌-◌, ◌*◌, ◌/◌, ◌%◌, ◌≤◌, ◌<◌, min}
 use native.Mathlib.Omega.{arith}
 use native.Mathlib.Nat.{zero-add}
 use borrow.Author.Tests.{lt-ltb}
-use lib.Dec.{leb, ltb}
+use lib.Dec.{leb}
 use lib.ListN.{length, take, drop, get_or, length-map, length-append}
 use lib.Seq.{ext_get_or, take_at}
 use Rattle.bsmp.specs.Base.{up_from, marks_of}
@@ -22,10 +21,10 @@ use Rattle.records.proofs.Lending.{made_count}
 use Rattle.asking.specs.Request.{fields_of}
 use Rattle.asking.specs.Learned.{Learned, slot_of, curves_from, functions_from}
 use Rattle.asking.specs.Reply.{wanted, tells}
-use Rattle.asking.specs.Learning.{with_made, with_variables, with_curves, with_functions, regrouped, followed, taught}
+use Rattle.asking.specs.Learning.{with_made, with_curves, with_functions, regrouped, followed, taught}
 use Rattle.asking.specs.declared.Request.{Request}
-use Rattle.asking.specs.declared.Request.TheVariants.{Version, ListVariables, ListGroups, ShowGroup, ListCurves, ReadSum, ListFunctions, ReadVariable, ReadGroup, WriteVariable, WriteGroup}
-use Rattle.asking.specs.declared.Request.TheVariants.{MaskVariable, MaskGroup, WriteRead, MakeGroup, RemoveGroups, ReadBlock, WriteBlock, RenewSum, RunFunction}
+use Rattle.asking.specs.declared.Request.TheVariants.{ListVariables, ListGroups, ShowGroup, ListCurves, ListFunctions}
+use Rattle.asking.specs.declared.Request.TheVariants.{MakeGroup, RemoveGroups}
 use Rattle.learned.specs.Table.{sizes_in, curves_in, functions_in, table_of}
 use Rattle.learned.specs.declared.Known.{Known}
 use Rattle.learned.proofs.Fronts.{size_count, sizes_front}

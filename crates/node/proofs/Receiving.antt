@@ -2,12 +2,12 @@
 use mathlib.Core.Path.{◌≡◌, refl, sym, ap, ◌∙◌, subst}
 use mathlib.Core.Bool.{Bool, true, false}
 use mathlib.Core.List.{List}
-use Prim.Native.Nat.{ℕ, ◌+◌, ◌-◌, ◌≤◌}
+use Prim.Native.Nat.{ℕ, ◌+◌, ◌≤◌}
 use native.Mathlib.Omega.{arith}
 use lib.ListN.{length}
 use Rattle.bsmp.specs.Board.{Layout}
 use Rattle.bsmp.specs.Message.{Said, replies, runs, handled}
-use Rattle.bsmp.specs.Packet.{Result, refuse, message, frame, ends, served}
+use Rattle.bsmp.specs.Packet.{Result, refuse, frame, ends, served}
 use Rattle.bsmp.specs.Store.{Lent, held, outcome_of, shown}
 use Rattle.bsmp.specs.declared.FunctionNumber.{FunctionNumber}
 use Rattle.bsmp.specs.declared.Refusal.{Refusal}
@@ -15,7 +15,6 @@ use Rattle.bsmp.specs.declared.Outcome.{Outcome}
 use Rattle.bsmp.specs.declared.Outcome.TheVariants as O
 use Rattle.copies.specs.Put.{put, part}
 use Rattle.copies.proofs.Put.{put_nil}
-use Rattle.wire.specs.declared.Opened.TheVariants.{Refused}
 use Rattle.wire.proofs.Frame.{frame_shown, frame_outcome}
 use Rattle.changes.specs.declared.Regroup.{Regroup}
 use Rattle.changes.specs.declared.Regroup.TheVariants.{Keep}

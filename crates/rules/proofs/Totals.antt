@@ -3,7 +3,6 @@ use mathlib.Core.Path.{◌≡◌, sym, ap, ◌∙◌}
 use mathlib.Core.Bool.{Bool, true, false}
 use mathlib.Core.List.{List}
 use Prim.Native.Nat.{ℕ}
-use Rattle.bsmp.specs.Board.{usable}
 use Rattle.rules.specs.declared.Total.{Total}
 use Rattle.rules.specs.declared.CurveTotal.{CurveTotal}
 use Rattle.bsmp.specs.declared.Curve.{Curve}

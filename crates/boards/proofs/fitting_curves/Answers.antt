@@ -1,5 +1,4 @@
 -- `fitting_curves` meets its contract: one walk over the curves. Assumes nothing.
-use Prim.Native.Nat.{◌-◌}
 use Rattle.records.proofs.Sound.{size_short}
 use Rattle.boards.proofs.Lengths.{fitted_start, fitted_add, fitted_inside, fitted_front, fitted_next, fitted_stop, fitted_end}
 use borrow.Author.Rules.{rules}

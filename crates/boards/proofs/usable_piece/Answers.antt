@@ -1,5 +1,4 @@
 -- `usable_piece` meets its contract: one walk over 16 records. Assumes nothing.
-use Prim.Native.Nat.{◌-◌}
 use Rattle.boards.proofs.Pieces.{piece_start, piece_next, piece_end}
 use borrow.Author.Rules.{rules}
 use Rattle.boards.proofs.usable_piece.Goals as goal

@@ -1,5 +1,4 @@
 -- `usable_pieces` meets its contract: one walk over the pieces. Assumes nothing.
-use Prim.Native.Nat.{◌-◌}
 use Rattle.boards.proofs.Pieces.{pieces_start, pieces_inside, pieces_next, pieces_stop, pieces_end}
 use borrow.Author.Rules.{rules}
 use Rattle.boards.proofs.usable_pieces.Goals as goal

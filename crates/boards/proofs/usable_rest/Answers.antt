@@ -1,5 +1,4 @@
 -- `usable_rest` meets its contract: one walk over the records that are left. Assumes nothing.
-use Prim.Native.Nat.{◌-◌}
 use Rattle.boards.proofs.Pieces.{passing_start, rest_next, rest_stop, passing_end}
 use borrow.Author.Rules.{rules}
 use Rattle.boards.proofs.usable_rest.Goals as goal

@@ -1,5 +1,5 @@
 -- `bsmp_read_unsigned` meets its contract: the columns say what the lent records do (`Same.reading_same`). Assumes nothing.
-use Rattle.std.proofs.Common.{◌∙◌, ap, false, pos}
+use Rattle.std.proofs.Common.{◌∙◌, ap, false}
 use Rattle.records.specs.declared.Records.{Records}
 use Rattle.records.specs.Lending.{records_of}
 use Rattle.plain.specs.Calls.{reading_of}

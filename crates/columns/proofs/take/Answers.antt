@@ -1,5 +1,5 @@
 -- `take` meets its contract: a turn stores four records, the last first, or one, and no store past the first 64. Assumes nothing.
-use Rattle.std.proofs.Common.{◌≡◌, ◌+◌, length, refl, ap, ◌∙◌, arith}
+use Rattle.std.proofs.Common.{◌+◌, refl, ap, ◌∙◌, arith}
 use Rattle.records.specs.declared.Records.{Records}
 use Rattle.columns.specs.Columns.{variable_at, with_record, columns_to}
 use Rattle.columns.proofs.Columns.{four_more, one_more}
@@ -12,10 +12,11 @@ loop-i-init c = (omega arith, refl)
 pub loop-i-preserved : goal.loop-i-preserved
 loop-i-preserved c =
     let i = c.loop-i.i in
-    let vs = c.args.variables.now in
-    (omega arith,
+    let vs = c.args.variables.now in (
+      omega arith,
       ap (λ (r : Records). with_record (with_record (with_record (with_record r (i + 3) (variable_at vs (i + 3))) (i + 2) (variable_at vs (i + 2))) (i + 1) (variable_at vs (i + 1))) i (variable_at vs i)) c.loop-i.invariant.1
-      ∙ four_more _ vs i)
+          ∙ four_more _ vs i,
+    )
 
 pub loop-i-2-preserved : goal.loop-i-2-preserved
 loop-i-2-preserved c =

@@ -1,7 +1,5 @@
 -- `copy_block` meets its contract. Assumes nothing.
-use Prim.Native.Nat.{◌-◌}
 use Rattle.copies.proofs.Put.{put_piece, put_last}
-use Rattle.copies.specs.Put.{put}
 use borrow.Author.Rules.{rules}
 use Rattle.copies.proofs.copy_block.Goals as goal
 

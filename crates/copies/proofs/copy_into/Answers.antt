@@ -1,10 +1,8 @@
 -- `copy_into` meets its contract. Assumes nothing.
 use mathlib.Core.Path.{sym, ◌∙◌}
-use Prim.Native.Nat.{◌-◌}
 use native.Mathlib.Omega.{arith}
-use lib.ListN.{length, length-set}
+use lib.ListN.{length-set}
 use Rattle.copies.proofs.Put.{put_turn, put_done}
-use Rattle.copies.specs.Put.{put}
 use borrow.Author.Rules.{rules}
 use Rattle.copies.proofs.copy_into.Goals as goal
 

@@ -1,5 +1,4 @@
 -- `list` meets its contract: one walk over the records. Assumes nothing.
-use Prim.Native.Nat.{◌-◌}
 use Rattle.curves.proofs.Listing.{list_start, list_next, list_end}
 use borrow.Author.Rules.{rules}
 use Rattle.curves.proofs.list.Goals as goal

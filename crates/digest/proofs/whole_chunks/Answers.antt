@@ -1,5 +1,5 @@
 -- `whole_chunks` meets its contract. Assumes nothing.
-use Rattle.std.proofs.Common.{◌-◌, rules}
+use Rattle.std.proofs.Common.{rules}
 use Rattle.digest.proofs.Chunks.{chunk_long, chunk_turn, chunk_end}
 use Rattle.digest.proofs.whole_chunks.Goals as goal
 

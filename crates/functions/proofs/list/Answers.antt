@@ -1,5 +1,4 @@
 -- `list` meets its contract: one walk over the records. Assumes nothing.
-use Prim.Native.Nat.{◌-◌}
 use Rattle.parts.proofs.Listing.{listing_end}
 use Rattle.functions.proofs.Listing.{input_small, output_small, list_start, list_next}
 use borrow.Author.Rules.{rules}

@@ -1,5 +1,4 @@
 -- `list` meets its contract. Assumes nothing.
-use Prim.Native.Nat.{◌-◌}
 use Rattle.parts.proofs.Listing.{listing_end}
 use Rattle.groups.proofs.Listing.{list_start, list_next}
 use borrow.Author.Rules.{rules}

@@ -1,6 +1,4 @@
 -- `usable_sizes` meets its contract: one walk over the bytes. Assumes nothing.
-use Prim.Native.Nat.{◌-◌}
-use lib.Dec.{leb}
 use borrow.Author.Tests.{le-leb, lt-leb}
 use Rattle.learned.proofs.Sizes.{sized_start, sizes_few, sizes_many, sizes_over, sizes_none, sized_fits, sized_next, sized_end}
 use borrow.Author.Rules.{rules}

@@ -1,6 +1,5 @@
 -- `are_known` meets its contract. Assumes nothing.
 use mathlib.Core.Path.{refl}
-use Prim.Native.Nat.{◌-◌}
 use native.Mathlib.Omega.{arith}
 use Rattle.learning.proofs.Taking.{known_next, known_not, known_all}
 use borrow.Author.Rules.{rules}

@@ -1,5 +1,4 @@
 -- `marks_in` meets its contract. Assumes nothing.
-use Prim.Native.Nat.{◌-◌}
 use Rattle.learning.proofs.Taking.{TopBits}
 use Rattle.learning.proofs.marks_in.Given as goal
 

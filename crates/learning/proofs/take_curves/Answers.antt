@@ -1,8 +1,7 @@
 -- `take_curves` meets its contract. Assumes nothing.
 use mathlib.Core.Path.{refl, ◌∙◌}
-use Prim.Native.Nat.{◌-◌}
 use native.Mathlib.Omega.{arith}
-use lib.ListN.{length, length-set}
+use lib.ListN.{length-set}
 use Rattle.learning.proofs.Taking.{curves_next, curves_end}
 use Rattle.learning.proofs.take_curves.Goals as goal
 

@@ -1,8 +1,7 @@
 -- `take_sizes` meets its contract. Assumes nothing.
 use mathlib.Core.Path.{refl, ◌∙◌}
-use Prim.Native.Nat.{◌-◌}
 use native.Mathlib.Omega.{arith}
-use lib.ListN.{length, length-set}
+use lib.ListN.{length-set}
 use Rattle.learning.proofs.Taking.{sizes_next, sizes_end}
 use Rattle.learning.proofs.take_sizes.Goals as goal
 

@@ -1,5 +1,4 @@
 -- `fit_counts` meets its contract: one walk over the counts. Assumes nothing.
-use Prim.Native.Nat.{◌-◌}
 use Rattle.listed.proofs.Counts.{counts_few, counts_many, counted_start, counts_stop, counted_next, counted_end}
 use borrow.Author.Rules.{rules}
 use Rattle.listed.proofs.fit_counts.Goals as goal

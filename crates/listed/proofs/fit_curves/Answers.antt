@@ -1,5 +1,4 @@
 -- `fit_curves` meets its contract: one walk over the records. Assumes nothing.
-use Prim.Native.Nat.{◌-◌}
 use Rattle.listed.proofs.Fives.{fives_many, stepped_start, stepped_stop, stepped_mul, stepped_fits, stepped_next, stepped_cut, stepped_end}
 use borrow.Author.Rules.{rules}
 use Rattle.listed.proofs.fit_curves.Goals as goal

@@ -1,5 +1,4 @@
 -- `in_order` meets its contract: one walk over the numbers. Assumes nothing.
-use Prim.Native.Nat.{◌-◌}
 use Rattle.listed.proofs.Order.{ordered_start, order_over, order_below, ordered_next, ordered_end}
 use borrow.Author.Rules.{rules}
 use Rattle.listed.proofs.in_order.Goals as goal

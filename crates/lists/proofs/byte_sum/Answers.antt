@@ -1,7 +1,5 @@
 -- `byte_sum` meets its contract. Assumes nothing.
-use Prim.Native.Nat.{◌-◌}
 use native.Mathlib.Omega.{arith}
-use lib.ListN.{drop}
 use Rattle.lists.proofs.Sum.{total_drop, total_end}
 use Rattle.lists.proofs.byte_sum.Goals as goal
 

@@ -1,8 +1,7 @@
 -- `mask_into` meets its contract. Assumes nothing.
 use mathlib.Core.Path.{sym, ◌∙◌}
-use Prim.Native.Nat.{◌-◌}
 use native.Mathlib.Omega.{arith}
-use lib.ListN.{length, length-set}
+use lib.ListN.{length-set}
 use Rattle.lists.proofs.Mask.{mask_turn, mask_done}
 use borrow.Author.Rules.{rules}
 use Rattle.lists.proofs.mask_into.Goals as goal

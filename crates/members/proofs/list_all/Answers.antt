@@ -1,7 +1,6 @@
 -- `list_all` meets its contract. Assumes nothing.
-use Prim.Native.Nat.{◌-◌}
 use native.Mathlib.Omega.{arith}
-use lib.ListN.{length, length-set}
+use lib.ListN.{length-set}
 use Rattle.members.proofs.Whole.{all_start, all_next, all_done}
 use borrow.Author.Rules.{rules}
 use Rattle.members.proofs.list_all.Goals as goal

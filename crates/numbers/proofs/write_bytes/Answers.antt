@@ -1,7 +1,6 @@
 -- `write_bytes` meets its contract: with the rest of the bytes written from i on, all is as it should be. Assumes nothing.
-use Prim.Native.Nat.{◌-◌}
 use native.Mathlib.Omega.{arith}
-use lib.ListN.{length, length-set}
+use lib.ListN.{length-set}
 use Rattle.numbers.proofs.Order.{place_within}
 use Rattle.numbers.proofs.Little.{write_start, write_turn, write_end}
 use borrow.Author.Rules.{rules}

@@ -7,7 +7,7 @@ use Rattle.copies.specs.Put.{put}
 use Rattle.numbers.proofs.write_bytes.Given as goal
 
 abbrev pub invariant-loop-i : goal.invariant-loop-i
-invariant-loop-i l =     (l.i ≤ length l.initial.out) × (length l.initial.out ≡ length l.out) × (put (turned l.big l.out) l.i (little_bytes (length l.initial.out - l.i) l.rest) ≡ little_bytes (length l.initial.out) l.u)
+invariant-loop-i l = (l.i ≤ length l.initial.out) × (length l.initial.out ≡ length l.out) × (put (turned l.big l.out) l.i (little_bytes (length l.initial.out - l.i) l.rest) ≡ little_bytes (length l.initial.out) l.u)
 
 abbrev pub decreases-loop-i : goal.decreases-loop-i
 decreases-loop-i l = length l.initial.out - l.i

@@ -1,5 +1,4 @@
 -- `curve_start` meets its contract: one walk over the records before. Assumes nothing.
-use Prim.Native.Nat.{◌-◌}
 use Rattle.records.proofs.Blocks.{before_start, before_end, before_next, before_mul, before_add, blocks_next, blocks_add}
 use borrow.Author.Rules.{rules}
 use Rattle.records.proofs.curve_start.Goals as goal

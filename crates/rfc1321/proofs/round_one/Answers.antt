@@ -1,5 +1,5 @@
 -- `round_one` meets its contract. Assumes nothing.
-use Rattle.std.proofs.Common.{◌-◌, refl, rules}
+use Rattle.std.proofs.Common.{refl, rules}
 use Rattle.rfc1321.specs.Md5.{operations, round1}
 use Rattle.rfc1321.proofs.Turns.{turns, turn, turned}
 use Rattle.rfc1321.proofs.round_one.Invariants.{pattern}

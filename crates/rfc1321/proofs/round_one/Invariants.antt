@@ -1,7 +1,7 @@
 -- `round_one` meets its contract. Assumes nothing.
 use Rattle.std.proofs.Common.{◌≡◌, suc, ◌-◌, ◌/◌, ◌%◌, ◌≤◌}
 use Rattle.rfc1321.specs.Md5.{F, operations, round1}
-use Rattle.rfc1321.proofs.Turns.{Pattern, turns, turn}
+use Rattle.rfc1321.proofs.Turns.{Pattern, turns}
 use Rattle.rfc1321.proofs.round_one.Given as goal
 
 abbrev pub pattern : Pattern

@@ -1,5 +1,5 @@
 -- `round_three` meets its contract. Assumes nothing.
-use Rattle.std.proofs.Common.{◌-◌, refl, rules}
+use Rattle.std.proofs.Common.{refl, rules}
 use Rattle.rfc1321.specs.Md5.{operations, round3}
 use Rattle.rfc1321.proofs.Turns.{turns, turn, turned}
 use Rattle.rfc1321.proofs.round_three.Invariants.{pattern}

@@ -1,7 +1,7 @@
 -- `round_two` meets its contract. Assumes nothing.
 use Rattle.std.proofs.Common.{◌≡◌, suc, ◌+◌, ◌-◌, ◌*◌, ◌/◌, ◌%◌, ◌≤◌}
 use Rattle.rfc1321.specs.Md5.{G, operations, round2}
-use Rattle.rfc1321.proofs.Turns.{Pattern, turns, turn}
+use Rattle.rfc1321.proofs.Turns.{Pattern, turns}
 use Rattle.rfc1321.proofs.round_two.Given as goal
 
 abbrev pub pattern : Pattern

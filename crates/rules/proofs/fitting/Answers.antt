@@ -1,5 +1,4 @@
 -- `fitting` meets its contract: one walk over the lengths. Assumes nothing.
-use Prim.Native.Nat.{◌-◌}
 use Rattle.rules.proofs.Lengths.{fitting_start, fitting_next, fitting_end}
 use borrow.Author.Rules.{rules}
 use Rattle.rules.proofs.fitting.Goals as goal

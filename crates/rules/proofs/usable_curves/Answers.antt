@@ -1,5 +1,4 @@
 -- `usable_curves` meets its contract: one walk over the records, three numbers at a time. Assumes nothing.
-use Prim.Native.Nat.{◌-◌}
 use Rattle.rules.proofs.Checks.{refused_curves, curves_large}
 use Rattle.rules.proofs.Thirds.{stepped_start, stepped_index, curves_over, curves_cut, stepped_stop, stepped_next, stepped_mul, stepped_fits, stepped_count, stepped_sum, stepped_end}
 use mathlib.Core.Path.{ap}

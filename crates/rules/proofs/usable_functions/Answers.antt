@@ -1,5 +1,4 @@
 -- `usable_functions` meets its contract: one walk over the bytes. Assumes nothing.
-use Prim.Native.Nat.{◌-◌}
 use Rattle.rules.proofs.Pairs.{joined_start, joined_next, functions_many, functions_odd, functions_told}
 use borrow.Author.Rules.{rules}
 use Rattle.rules.proofs.usable_functions.Goals as goal

@@ -2,7 +2,7 @@
 use mathlib.Core.Path.{◌≡◌}
 use mathlib.Core.Bool.{Bool, true, false, not}
 use mathlib.Core.List.{List}
-use Prim.Native.Nat.{ℕ, ◌+◌, ◌-◌, ◌<◌}
+use Prim.Native.Nat.{ℕ, ◌+◌, ◌<◌}
 use lib.ListN.{get_or}
 use Rattle.bsmp.specs.Board.{usable_groups}
 use Rattle.records.specs.Lending.{groups_by, groups_of}
@@ -21,7 +21,6 @@ module _ (v n : ℕ) (ps : List ℕ) (i : ℕ) (b : Bool) (h : i < n) (t : b ≡
   group-stop : not b ≡ true → Walked (usable_group v) (groups_of (groups_by n ps)) i → false ≡ usable_groups v (groups_of (groups_by n ps))
   unfolding usable_groups
   group-stop z w = one_broken (usable_group v) (groups_of (groups_by n ps)) 5 (walked_stop (usable_group v) (groups_of (groups_by n ps)) n i (get_or ps i 0) 0 b (made_count n ps) h (made_at n ps i h) t z w)
-
 
 pub returns-then-made-gt5 : goal.returns-then-made-gt5
 unfolding usable_groups

@@ -1,5 +1,4 @@
 -- `usable_records` meets its contract: one walk over the records. Assumes nothing.
-use Prim.Native.Nat.{◌-◌}
 use Rattle.records.proofs.Lending.{column_count}
 use Rattle.rules.proofs.Checks.{refused_total, variables_few, variables_many, variables_broken, variables_large}
 use Rattle.rules.proofs.Counting.{counted_start, total_fits, counted_stop, counted_next, counted_sum, counted_end}

@@ -1,5 +1,4 @@
 -- `set_of` meets its contract. Assumes nothing.
-use Prim.Native.Nat.{◌-◌}
 use native.Mathlib.Omega.{arith}
 use Rattle.sets.proofs.Ids.{set_next, set_end}
 use borrow.Author.Rules.{rules}

@@ -1,5 +1,4 @@
 -- `fill` meets its contract: one walk over the lengths. Assumes nothing.
-use Prim.Native.Nat.{◌-◌}
 use Rattle.sums.proofs.Lengths.{filling_start, filling_next, filling_end}
 use borrow.Author.Rules.{rules}
 use Rattle.sums.proofs.fill.Goals as goal

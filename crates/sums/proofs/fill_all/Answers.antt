@@ -1,5 +1,4 @@
 -- `fill_all` meets its contract: one walk over the curves. Assumes nothing.
-use Prim.Native.Nat.{◌-◌}
 use Rattle.records.proofs.Sound.{size_short}
 use Rattle.sums.proofs.Lengths.{all_start, all_end_fits, all_front, all_inside, all_next, all_end}
 use borrow.Author.Rules.{rules}

@@ -1,5 +1,4 @@
 -- `renew_all` meets its contract: one walk over the curves. Assumes nothing.
-use Prim.Native.Nat.{◌-◌}
 use Rattle.sums.proofs.Sums.{renewing_start, renewing_next, renewing_end}
 use borrow.Author.Rules.{rules}
 use Rattle.sums.proofs.renew_all.Goals as goal

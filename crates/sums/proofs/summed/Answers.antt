@@ -1,5 +1,4 @@
 -- `summed` meets its contract: one walk over the blocks. Assumes nothing.
-use Prim.Native.Nat.{◌-◌}
 use Rattle.sums.proofs.Summing.{summing_start, whole_inside, next_fits, own_fits, own_inside, own_add, full_next, short_next, summing_end}
 use borrow.Author.Rules.{rules}
 use Rattle.sums.proofs.summed.Goals as goal
@@ -23,8 +22,8 @@ slice_bounds-feed-end c = search (own_inside, rules)
 pub loop-i-preserved : goal.loop-i-preserved
 loop-i-preserved c =
     elim c.if-count-size.branch [
-      then-count-size w ↦ rw (w.buffer-is, w.progress-is, w.from-is) (search (short_next, rules))
-    | else-count-size w ↦ rw (w.buffer-is, w.progress-is, w.from-is) (search (full_next, rules))
+      | then-count-size w ↦ rw (w.buffer-is, w.progress-is, w.from-is) (search (short_next, rules))
+      | else-count-size w ↦ rw (w.buffer-is, w.progress-is, w.from-is) (search (full_next, rules))
     ]
 
 pub slice_bounds-feed-end-2 : goal.slice_bounds-feed-end-2

@@ -1,5 +1,4 @@
 -- `list` meets its contract. Assumes nothing.
-use Prim.Native.Nat.{◌-◌}
 use Rattle.variables.proofs.Listing.{size_small, list_start, list_next, list_end}
 use borrow.Author.Rules.{rules}
 use Rattle.variables.proofs.list.Goals as goal

@@ -1,5 +1,4 @@
 -- `Ids::of` meets its contract. Assumes nothing.
-use Prim.Native.Nat.{◌-◌}
 use native.Mathlib.Omega.{arith}
 use Rattle.groups.proofs.Ascend.{look_start, look_next, look_end}
 use borrow.Author.Rules.{rules}
