@@ -19,7 +19,7 @@ use Rattle.bsmp.proofs.Lists.{map_map, every_at, length_up_from, map_numbers}
 use Rattle.bsmp.proofs.Marks.{at_number}
 use Rattle.bsmp.proofs.Usable.{usable_parts, sizes_usable}
 use Rattle.bsmp.proofs.Stays.{block_size, sum_length}
-use Rattle.bsmp.proofs.Lengths.{in_range_lem as lengths-in-range, content_length, place_known}
+use Rattle.bsmp.proofs.Lengths.{in_range_lem as lengths_in_range, content_length, place_known}
 use Rattle.bsmp.proofs.Room.{told_bytes_lem, five_each, limits}
 use Rattle.asking.specs.Learned.{Learned, learned_of, usable_sizes, usable_learned, slot, slot_of, variable_slots, group_slots, fits_count, curves_from, functions_from}
 use Rattle.asking.specs.Reply.{Wanted, member_list, values, block, digest, output, is_variables, is_groups, is_members, is_curves, is_functions, is_values, holds, error_reply, answers, tells}
@@ -164,7 +164,7 @@ module _ (t : Table) (s : State) (h : usable t s ≡ true) where
       let z : get_or (block_sizes t.curves) at 0 ≡ (curve_of L c).size = block_size t.curves c.0 k a b in
       let one = between 1 4096 (curve_of L c).size (and_true (is_type (curve_of L c).writable) _ (and_true (is_type (curve_of L c).writable && within 1 4096 (curve_of L c).size) (within 1 65536 (curve_of L c).blocks) (good_curve c a)).0).1 in
       let e : length (content_of s at) ≡ get_or s.lengths at 0 = content_length t s h at in
-      (omega (arith, (lengths-in-range t s h).least at (place_known (block_sizes t.curves) at (omega arith))), omega (arith, (lengths-in-range t s h).most at))
+      (omega (arith, (lengths_in_range t s h).least at (place_known (block_sizes t.curves) at (omega arith))), omega (arith, (lengths_in_range t s h).most at))
 
 -- each form of an answer, once: s is the board when it was asked, s' what it holds after it
 module _ (t : Table) (s : State) (h : usable t s ≡ true) (s' : State) (u : usable t s' ≡ true) (d : List ℕ) where

@@ -20,7 +20,7 @@ use Rattle.bsmp.specs.declared.Operation.{Operation}
 use Rattle.bsmp.proofs.Bools.{or_false, or_true, and_false}
 use Rattle.bsmp.proofs.Usable.{usable_by, faults_by}
 use Rattle.bsmp.proofs.Lists.{map_set, length_at, set_at, count_same, parts, every_by}
-use Rattle.bsmp.proofs.Hiding.{Hidden, step as hidden-step, before as Hidden-before}
+use Rattle.bsmp.proofs.Hiding.{Hidden, step as hidden_step, before as hidden_before}
 
 -- numbers of variables
 pub other_number : (i v : VariableNumber) → is_same v i ≡ false → i ≢ v
@@ -186,13 +186,13 @@ hidden v = record {
 -- one event
 pub step : (t : Table) (a : Place) (v : VariableNumber) (e : Event) (s₁ s₂ : State) → Alike v s₁ s₂
     → Apart (Alike v) (λ x₁ x₂. value_of x₁ v ≡ value_of x₂ v) (happen t a e s₁) (happen t a e s₂) (reads t a v e s₁)
-step t a v e s₁ s₂ h = hidden-step (hidden v) t a e s₁ s₂ refl h
+step t a v e s₁ s₂ h = hidden_step (hidden v) t a e s₁ s₂ refl h
 
 module _ (t : Table) (a : Place) (v : VariableNumber) where
   -- all events before the first that reads v
   pub before : (es : List Event) (s₁ s₂ : State) → Alike v s₁ s₂ → unread t a v es s₁ ≡ true
       → (endings t a es s₁ ≡ endings t a es s₂) × Alike v (later t a es s₁) (later t a es s₂)
-  before es s₁ s₂ h u = Hidden-before (hidden v) t a es s₁ s₂ (every_by _ es (λ e. refl)) h u
+  before es s₁ s₂ h u = hidden_before (hidden v) t a es s₁ s₂ (every_by _ es (λ e. refl)) h u
 
   -- demand 3, whole: events that do not read v, and then one that does
   pub apart : (es : List Event) (e : Event) (s₁ s₂ : State) → Alike v s₁ s₂ → unread t a v es s₁ ≡ true → reads t a v e (later t a es s₁) ≡ true

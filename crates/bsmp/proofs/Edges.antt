@@ -46,21 +46,21 @@ pub taken_curves : map usable_curves ([] ∷ (blocks 1 65536 ∷ []) ∷ (blocks
 unfolding computes
 taken_curves = refl
 
-pub taken-rest :
+pub taken_rest :
     (usable_functions [] ∷ usable_functions (replicate 16 (takes 15 15)) ∷ usable_groups 3 [] ∷ usable_groups 3 (replicate 5 7) ∷ usable_groups 64 ((2 ^ 64 - 1) ∷ [])
     ∷ usable_place (place 1 0x01) ∷ usable_place (place 31 0xFF) ∷ [])
     ≡ replicate 7 true
 unfolding computes
-taken-rest = refl
+taken_rest = refl
 
 -- .. and what it refuses
-pub refused-variables :
+pub refused_variables :
     map usable_variables ([] ∷ replicate 65 (plain 1) ∷ (plain 0 ∷ []) ∷ (plain 128 ∷ []) ∷ (plain 1 ∷ replicate 64 (plain 64))
     ∷ (number 3 ∷ []) ∷ (record { writable = 2; size = 1; kind = 0 } ∷ []) ∷ (record { writable = 0; size = 1; kind = 5 } ∷ [])
     ∷ (plain 1 ∷ replicate 33 (plain 125)) ∷ [])
     ≡ replicate 9 false
 unfolding computes
-refused-variables = refl
+refused_variables = refl
 
 pub refused_curves :
     map usable_curves ((blocks 1 65537 ∷ []) ∷ (blocks 0 1 ∷ []) ∷ (blocks 1 0 ∷ []) ∷ (blocks 4097 1 ∷ []) ∷ (blocks 2 65536 ∷ [])
@@ -69,12 +69,12 @@ pub refused_curves :
 unfolding computes
 refused_curves = refl
 
-pub refused-rest :
+pub refused_rest :
     (usable_functions (replicate 17 (takes 0 0)) ∷ usable_functions (takes 16 0 ∷ []) ∷ usable_functions (takes 0 16 ∷ []) ∷ usable_groups 3 (replicate 6 7)
     ∷ usable_groups 3 (0 ∷ []) ∷ usable_groups 3 (8 ∷ []) ∷ usable_place (place 0 0x01) ∷ usable_place (place 32 0x01) ∷ usable_place (place 5 0x80) ∷ [])
     ≡ replicate 9 false
 unfolding computes
-refused-rest = refl
+refused_rest = refl
 
 -- "65,536 as 0", and every block number that fits two bytes exists then
 abbrev long : Layout
@@ -131,11 +131,11 @@ busy_rows =
     ∷ under (2 ^ 64 - 8) (hex 6 0x05_10_00_01_01_E9) (reply (hex 6 0x00_11_00_01_5A_94))
     ∷ []
 
-pub busy-reads :
+pub busy_reads :
     map (λ (r : BusyRow). packet table_a place_a r.busy 4104 r.packet (state_a 0x5A)) busy_rows
     ≡ map (λ (r : BusyRow). record { ending = r.ends; state = state_a 0x5A }) busy_rows
 unfolding computes
-busy-reads = refl
+busy_reads = refl
 
 -- an empty group is never busy: 12 of group 1 where every variable is writable and busy
 pub empty_read : judge (record { sizes = 1 ∷ []; writable = 1; curves = []; functions = [] }) [] 1 (0x12 ∷ 0 ∷ 1 ∷ 1 ∷ []) ≡ Pass

@@ -274,9 +274,9 @@ fourth_back = refl
 abbrev ends_with : Event → List ℕ → Ending
 ends_with e ns = (happen table_a place_a e (with_lengths (state_a 0x5A) ns)).ending
 
-pub lengths-refused :
+pub lengths_refused :
     (map (ends_with (sent three)) ((0 ∷ 4 ∷ []) ∷ (4 ∷ 5 ∷ []) ∷ (4 ∷ []) ∷ (4 ∷ 4 ∷ 4 ∷ []) ∷ (1 ∷ 4 ∷ []) ∷ [])
     ≡ refused BoardUnusable ∷ refused BoardUnusable ∷ refused BoardUnusable ∷ refused BoardUnusable ∷ ok ∷ [])
     × (map (ends_with freshens) ((0 ∷ 5 ∷ []) ∷ (4 ∷ []) ∷ (4 ∷ 4 ∷ 4 ∷ []) ∷ []) ≡ silence ∷ refused BoardUnusable ∷ refused BoardUnusable ∷ [])
 unfolding computes
-lengths-refused = (refl, refl)
+lengths_refused = (refl, refl)

@@ -117,7 +117,7 @@ ok = reply (hex 5 0x00_E0_00_00_20)
 abbrev zero_sum : Ending
 zero_sum = reply (hex 21 0x00_0B_00_10_7DEA362B3FAC8E00956A4952A3D4F474_2B)
 
-pub sums-read :
+pub sums_read :
     answers (hex 6 0x05_0A_00_01_00_F0
     ∷ hex 12 0x05_41_00_07_00_00_01_01_02_03_04_A8
     ∷ hex 6 0x05_0A_00_01_00_F0
@@ -133,7 +133,7 @@ pub sums-read :
     ≡ zero_sum ∷ ok ∷ zero_sum ∷ ok ∷ reply (hex 21 0x00_0B_00_10_8BDAA24055DC46C2806C26C94E7A9392_9D) ∷ ok ∷ silence ∷ zero_sum
     ∷ reply (hex 5 0x00_E5_00_00_1B) ∷ reply (hex 5 0x00_E5_00_00_1B) ∷ reply (hex 5 0x00_E3_00_00_1D) ∷ []
 unfolding computes
-sums-read = refl
+sums_read = refl
 
 -- board A is fresh as the examples have it
 pub fresh_A : (fresh_board table_a (state_a 0x5A)).state ≡ state_a 0x5A

@@ -124,12 +124,12 @@ module _ (own multicast : ℕ) (x : Lending) (u : usable (table_in x) (held_in x
   fresh_gives : (z : PlainFreshLeft) → z ≡ fresh_of x → Gives a x (fresh_turn z)
   fresh_gives z h =
       let after : State = (fresh_board t (held_in x)).state in
-      let with-both : Lent → List ℕ → List ℕ → Lent = λ y ls ds. lent_sums (lent_blocks y y.blocks ls) ds in
-      let k : lent_of after ≡ with-both (lent_of (held_in x)) after.lengths (join after.sums) = ap lent_of (fresh_keeps t (held_in x)) in
+      let with_both : Lent → List ℕ → List ℕ → Lent = λ y ls ds. lent_sums (lent_blocks y y.blocks ls) ds in
+      let k : lent_of after ≡ with_both (lent_of (held_in x)) after.lengths (join after.sums) = ap lent_of (fresh_keeps t (held_in x)) in
       record {
         sees_it = ap (λ (y : PlainFreshLeft). number_seen y.number) h ∙ fresh_seen (held_in x);
-        leaves_it = ap (λ (y : PlainFreshLeft). with-both (lent_in x) y.lengths y.sums) h
-            ∙ sym (k ∙ ap (λ y. with-both y after.lengths (join after.sums)) (lent_held (layout t) (lent_in x)));
+        leaves_it = ap (λ (y : PlainFreshLeft). with_both (lent_in x) y.lengths y.sums) h
+            ∙ sym (k ∙ ap (λ y. with_both y after.lengths (join after.sums)) (lent_held (layout t) (lent_in x)));
       }
 
   gives : (r : Turn) → Promised own multicast x r → Gives a x r

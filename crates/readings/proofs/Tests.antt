@@ -64,7 +64,7 @@ module _ (r : Records) (i : VariableNumber) (s : Bool) (n : ℕ) (c : Total) (e 
         pub judge_good : (b : Bool) → w ≡ false → n ≡ get_or r.sizes i.0 0 → b ≡ is_big k → Good b ≡ judged_of (records_of r) i s n
         judge_good b t d o = rw (known, t, eq-eqb _ _ d, o)
 
-pub ruleset judge-cases = (judge_unusable, judge_unknown, judge_kind, judge_count, judge_good)
+pub ruleset judge_cases = (judge_unusable, judge_unknown, judge_kind, judge_count, judge_good)
 
 -- what a judgement tells: the tests' refusal, or that all pass ------------------------------------------------------------
 through_cond : {B C : Type 0} (g : B → C) (b : Bool) (x y : B) → g (cond b x y) ≡ cond b (g x) (g y)

@@ -93,7 +93,7 @@ module _ (to : ℕ) (q : List ℕ) (a : Bool) (ae : a ≡ is_address to) where
               pub open_whole : n ≡ length q - 5 → Opens Message
               open_whole w = last _ (rw (lt-leb 248 to m, d, size_tested q n l f, eq-eqb _ _ w))
 
-pub ruleset open-cases = (open_address, open_short, open_long, open_sum, open_multicast, open_elsewhere, open_cut, open_size, open_whole)
+pub ruleset open_cases = (open_address, open_short, open_long, open_sum, open_multicast, open_elsewhere, open_cut, open_size, open_whole)
 
 -- what an opened reply tells ----------------------------------------------------------------------------------------------
 abbrev either : {B : Type 0} → (Refusal → B) → B → Opened → B

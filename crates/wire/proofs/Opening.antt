@@ -58,7 +58,7 @@ module _ (own mc room : ℕ) (p : List ℕ) (u : Bool) (pl : u ≡ usable_place 
           unfolding opened_of first
           open_other t = simp (← pl, v, le-ltb _ _ r, le-ltb _ _ h, le-ltb _ _ k, ← e, eq-eqb _ _ z, ne_eqb _ _ o, ← f, t)
 
-pub ruleset open-cases = (open_place, open_room, open_short, open_long, open_sum, open_own, open_multicast, open_other)
+pub ruleset open_cases = (open_place, open_room, open_short, open_long, open_sum, open_own, open_multicast, open_other)
 
 -- what an opened packet tells ---------------------------------------------------------------------------------------------
 through_cond : {B C : Type 0} (g : B → C) (b : Bool) (x y : B) → g (cond b x y) ≡ cond b (g x) (g y)
