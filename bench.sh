@@ -16,10 +16,10 @@ if [ $# -eq 1 ]; then
     exec <"$1"
 fi
 cd "$(dirname "$(readlink -f "$0")")"
-tools/prove bench.sh run bench </dev/null >/dev/null || exit 1
+tools/prove bench bench.sh || exit 1
 
 # The program ends with 0 whatever it meets: what it couldn't read or write it says on standard error.
 said=$(mktemp)
 trap 'rm -f "$said"' EXIT
-crates/bench/out/bench 2>"$said" || stop 1 "the program ended with $?"
+target/bin/bench 2>"$said" || stop 1 "the program ended with $?"
 [ ! -s "$said" ] || { sort -u "$said" >&2; exit 1; }

@@ -1,4 +1,4 @@
-//! Links the proved archives, the node's and the asking side's: from the folder that RATTLE_LIB names, else from where `rt staticlib` writes them.
+//! Links the proved archives, the node's and the asking side's: from the folder that RATTLE_LIB names, else from where `tools/prove` writes them.
 use std::env;
 use std::path::{Path, PathBuf};
 use std::process::exit;
@@ -14,7 +14,7 @@ fn main() {
         let archive = folder.join(format!("lib{name}.a"));
         if !archive.is_file() {
             eprintln!(
-                "{} is missing: run rt staticlib {name}, or set RATTLE_LIB to the archives' folder",
+                "{} is missing: run tools/prove {name}, or set RATTLE_LIB to the archives' folder",
                 archive.display()
             );
             exit(1);

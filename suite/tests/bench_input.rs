@@ -1,5 +1,5 @@
 //! The bench program on input of every sort: each record ends in one line, and the second node's bench prints the same.
-//! BENCH names the program; else it is where `rt check bench` puts it.
+//! BENCH names the program; else it is where `tools/prove bench` puts it.
 use std::collections::BTreeSet;
 use std::path::Path;
 use suite::boards::board_a;
@@ -13,7 +13,7 @@ fn bench() -> String {
     let path = std::env::var("BENCH").unwrap_or_else(|_| built());
     assert!(
         Path::new(&path).is_file(),
-        "{} is missing: run rt check bench",
+        "{} is missing: run tools/prove bench",
         path
     );
     path

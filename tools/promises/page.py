@@ -6,7 +6,9 @@ usage: tools/promises/page.py, from the repository's root. In a promise, x is wh
 import glob, os, re
 
 ABOVE = ("bsmp_c", "bench")
-LINE = re.compile(r"^(\w+):(.*)$")
+LINE = re.compile(r"^(\w+)(?: staticlib)?:(.*)$")
+HEAD = re.compile(r"^( *)pub (?:extern \"C\" )?fn (\w+)[^(]*\(", re.M)
+CLAUSE = re.compile(r"\s+(requires|ensures)(\*?)(?: \w+)? \{")
 
 
 def crates():
@@ -15,27 +17,41 @@ def crates():
     return [name for name in names if name not in ABOVE]
 
 
-def plain(text):
-    """A clause without the machinery of lent things."""
+def closed(text, at):
+    """The place after the bracket that closes the one before `at`."""
+    depth = 1
+    while depth:
+        depth += {"(": 1, "{": 1, ")": -1, "}": -1}.get(text[at], 0)
+        at += 1
+    return at
+
+
+def plain(text, starred):
+    """A clause without the machinery of lent things. A starred one gives the result a name, and may bind others."""
     text = re.sub(r"\s+", " ", text).strip()
-    text = re.sub(r"\(now \((\w+) \.entry\)\)|now \((\w+) \.entry\)", lambda m: m.group(1) or m.group(2), text)
-    text = re.sub(r"\(now \((\w+) \.exit\)\)|now \((\w+) \.exit\)", lambda m: (m.group(1) or m.group(2)) + "′", text)
-    return re.sub(r"\(now (\w+)\)|now (\w+)\b", lambda m: m.group(1) or m.group(2), text)
+    text = re.sub(r"^λ \w+\. |[⌜⌝] ?", "", text).strip() if starred else re.sub(r"\bresult\b", "r", text)
+    return re.sub(r"(?<=\w)\.new\b", "′", re.sub(r"(?<=\w)\.(?:now|old)\b", "", text))
 
 
-def clauses(head, word):
-    found = re.findall(word + r" \{ (?:λ \w+\. )?((?:let [^⌜]* in\s)?)\s*⌜(.*?)⌝ \}", head, re.S)
-    return "; ".join("`" + plain(names + clause) + "`" for names, clause in found)
+def clauses(text, at):
+    """What the clauses from `at` on ask, and what they promise."""
+    said = {"requires": [], "ensures": []}
+    while m := CLAUSE.match(text, at):
+        at = closed(text, m.end())
+        said[m.group(1)].append("`" + plain(text[m.end():at - 1], m.group(2)) + "`")
+    return "; ".join(said["requires"]), "; ".join(said["ensures"])
 
 
 def functions(path):
     """(name, takes, asks, promises) of each public function, those of a type under its name."""
     text = open(path, encoding="utf-8").read()
     owners = [(m.start(), m.group(1)) for m in re.finditer(r"^impl (\w+)", text, re.M)]
-    for m in re.finditer(r"^( *)pub (?:extern \"C\" )?fn (\w+)\((.*?)\)(?: -> [^\n{]+)?\n(.*?)^\1\{", text, re.M | re.S):
+    for m in HEAD.finditer(text):
         owner = [name for start, name in owners if start < m.start()][-1:] if m.group(1) else []
-        takes = ", ".join(re.sub(r"\s+", " ", p).strip() for p in m.group(3).split(",") if p.strip())
-        yield "::".join(owner + [m.group(2)]), takes, clauses(m.group(4), "requires"), clauses(m.group(4), "ensures")
+        end = closed(text, m.end())
+        takes = ", ".join(re.sub(r"\s+", " ", p).strip() for p in text[m.end():end - 1].split(",") if p.strip())
+        result = re.compile(r"(?: -> [^\n{]+?)?(?=\s*[\n{])").match(text, end)
+        yield "::".join(owner + [m.group(2)]), takes, *clauses(text, result.end())
 
 
 def section(crate):

@@ -4,11 +4,11 @@
 #   x86_cc ARGS          the C compiler;   x86_run PROGRAM ARGS   runs what it made
 #   x86_cargo ARGS       cargo, offline, for x86-64; its programs run through x86_run
 #   need_archives WHO    proves and builds the library's archives where they are missing or older than a source
-# On x86-64 itself these are gcc, the program and cargo. Elsewhere they are Debian's cross compilers, and the toolchain's emulator and C library.
+# On x86-64 itself these are gcc, the program and cargo. Elsewhere they are Debian's cross compilers, emulator and C library, and the archives come
+# from an x86-64 machine, since `rt` runs there alone.
 x86_here=$(cd "$(dirname "$(readlink -f "${BASH_SOURCE[0]}")")" && pwd)
 x86_top=$(cd "$x86_here/../.." && pwd)
 x86_made=$x86_top/suite/target/x86
-x86_kit=$(dirname "$(dirname "$(rt doc)")")/on/$(uname -m)/toolchain
 export RATTLE_LIB=${RATTLE_LIB:-$x86_top/target/staticlib}
 unset CARGO_TARGET_DIR CARGO_BUILD_TARGET_DIR # what is built is looked for in its own folder
 
@@ -21,15 +21,12 @@ if [ "$(uname -m)" = x86_64 ]; then
 else
     need_packages() {
         dpkg --print-foreign-architectures | grep -qx amd64 || { dpkg --add-architecture amd64 && apt-get update -qq; }
-        install_missing rustc cargo libstd-rust-dev:amd64 gcc-x86-64-linux-gnu libc6-dev-amd64-cross g++ python3
+        install_missing rustc cargo libstd-rust-dev:amd64 gcc-x86-64-linux-gnu libc6-dev-amd64-cross qemu-user g++ python3
     }
     x86_cc() { x86_64-linux-gnu-gcc "$@"; }
-    x86_shim() {
-        [ -f "$x86_made/noattr.so" ] || { mkdir -p "$x86_made" && x86_cc -shared -fPIC -O1 "$x86_here/noattr.c" -o "$x86_made/noattr.so"; }
-    }
-    x86_run() { x86_shim && "$x86_here/run" "$@"; }
+    x86_run() { "$x86_here/run" "$@"; }
     x86_cargo() {
-        x86_shim && RUSTC=/usr/bin/rustc RUSTDOC=/usr/bin/rustdoc CARGO_BUILD_TARGET=x86_64-unknown-linux-gnu \
+        RUSTC=/usr/bin/rustc RUSTDOC=/usr/bin/rustdoc CARGO_BUILD_TARGET=x86_64-unknown-linux-gnu \
             CARGO_TARGET_X86_64_UNKNOWN_LINUX_GNU_LINKER=x86_64-linux-gnu-gcc \
             CARGO_TARGET_X86_64_UNKNOWN_LINUX_GNU_RUNNER=$x86_here/run /usr/bin/cargo "$1" --offline "${@:2}"
     }
@@ -54,8 +51,8 @@ need_archives() { # WHO says so
     local name archive
     for name in bsmp_c bsmp_ask; do
         archive=$RATTLE_LIB/lib$name.a
-        if [ "$RATTLE_LIB" = "$x86_top/target/staticlib" ] && { [ ! -f "$archive" ] || [ -n "$(find "$x86_top/crates" "$x86_top/crates.txt" -newer "$archive" -type f -print -quit)" ]; }; then
-            { need_packages && "$x86_top/tools/prove" "$1" staticlib "$name" >/dev/null && touch "$archive"; } </dev/null || return 1
+        if [ "$RATTLE_LIB" = "$x86_top/target/staticlib" ]; then
+            { need_packages && "$x86_top/tools/prove" "$name" "$1"; } </dev/null || return 1
         fi
         [ -f "$archive" ] || { echo "$1: $archive is not there" >&2; return 1; }
     done
