@@ -124,11 +124,12 @@ pub fn check_mask(sizes: &[u8], writable: u64, groups: &[u64], payload: &[u8], b
 }
 
 // What a walk over a new group's IDs finds: whether one names no variable, whether they ascend; the next may be no less than `least`.
+// This is of 16 bits, since the compiler takes 16 IDs at once, and keeps them on the stack of every packet if they are wider.
 #[derive(Clone, Copy)]
 struct Ids {
     unknown: bool,
     ascending: bool,
-    least: usize,
+    least: u16,
 }
 
 impl Ids {
@@ -143,9 +144,9 @@ impl Ids {
         };
         let mut i = 0;
         while i < ids.len() {
-            let n = ids[i] as usize;
+            let n = ids[i] as u16;
             s = Ids {
-                unknown: s.unknown | (count <= n),
+                unknown: s.unknown | (count <= n as usize),
                 ascending: s.ascending & (s.least <= n),
                 least: n + 1,
             };
