@@ -16,7 +16,7 @@
 #include <string.h>
 
 #ifndef MOST_STACK
-#define MOST_STACK 768
+#define MOST_STACK 640
 #endif
 #ifndef MOST_SUM_STACK
 #define MOST_SUM_STACK 1280

@@ -241,7 +241,7 @@ struct bsmp_sum {
  *
  * This call and 42 go through the bytes that a sum covers: some 2 ns each on a PC; on a Cortex-M3 some 70 instructions each, or 10
  * if the library is built at opt-level 3. The reply to 42 waits for it. They take at most 1,280 bytes of stack beyond their
- * arguments; all calls that work out no sum take at most 768, or 704 on a Cortex-M3. (ctest/stack.c measures both.) And every call
+ * arguments; all calls that work out no sum take at most 640, or 704 on a Cortex-M3. (ctest/stack.c measures both.) And every call
  * with a state looks at all lengths, so on a board with many blocks every call takes longer. */
 static inline uint8_t bsmp_node_fresh(const struct bsmp_board *board, struct bsmp_state *state);
 
