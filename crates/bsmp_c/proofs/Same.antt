@@ -16,6 +16,7 @@ use Rattle.bsmp.proofs.Bools.{not_so}
 use Rattle.bsmp.proofs.Chain.{first_stop}
 use Rattle.bsmp.proofs.Usable.{not_usable, faults_some}
 use Rattle.bsmp.proofs.Store.{join_cut}
+use Rattle.records.specs.declared.Records.{Records}
 use Rattle.records.specs.Lending.{records_of, groups_of}
 use Rattle.records.proofs.Sound.{variables_most}
 use Rattle.wire.specs.Opening.{placed}
@@ -28,6 +29,11 @@ use Rattle.columns.proofs.Columns.{columns_same}
 use Rattle.plain.specs.Lending.{Lending, lending, table_in, held_in}
 use Rattle.endings.specs.Numbers.{plain_outcome_of, plain_reading_of}
 use Rattle.plain.specs.Calls.{PlainPacketLeft, plain_packet_left, plain_packet_left_of, packet_of, PlainResultLeft, plain_result_left_of, result_of, PlainBytesLeft, plain_store_left_of, PlainFreshLeft, plain_fresh_left_of, plain_writing_left_of, store_of, fresh_of, writing_of, reading_of}
+
+-- so what an entry's work says of the columns, into which the lent records were taken, it says of the lent records
+pub of_lent : {X : Type 0} (of : List Variable → X) (vs : List Variable) → of (records_of (columns_of vs)) ≡ of vs
+    → (x : X) (taken : Records) → x ≡ of (records_of taken) → taken ≡ columns_of vs → x ≡ of vs
+of_lent of vs same x taken work take = work ∙ ap (λ (r : Records). of (records_of r)) take ∙ same
 
 -- the same with other variable records
 abbrev pub with_variables : List Variable → Lending → Lending

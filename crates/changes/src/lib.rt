@@ -42,7 +42,7 @@ fn change_one(
 ) -> Regroup
     requires sound { Sound sizes.now values.old }
     requires one_fits { OneFits sizes.now payload.now front }
-    ensures { let sizes = sizes.entry.now in
+    ensures { let sizes = sizes.now in
         let bytes = drop front payload.now in
         let named = variable_at payload.now 0 in
         (result ≡ Keep) × (cut sizes values.new ≡ edited op (named ∷ []) (bytes ∷ []) (cut sizes values.old)) }

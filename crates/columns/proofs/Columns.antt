@@ -24,6 +24,11 @@ pub columns_whole : (r : Records) (vs : List Variable) (k : ℕ)
     → records_by r.count (columns_to r vs k).writable (columns_to r vs k).sizes (columns_to r vs k).kinds ≡ columns_to r vs k
 columns_whole r vs k = ap (λ (n : ℕ). records_by n (columns_to r vs k).writable (columns_to r vs k).sizes (columns_to r vs k).kinds) (sym (to_count r vs k))
 
+-- of the n records that have a place the first i are stored, over what was lent
+pub record FirstStored (vs : List Variable) (n : ℕ) (lent held : Records) (i : ℕ) : Type 0 where
+  pub within : i ≤ n
+  pub stored : held ≡ columns_to lent vs i
+
 -- ---- records that are stored the last first
 swap : (r : Records) (i j : ℕ) (u v : Variable) → (j ≡ i → ⊥) → with_record (with_record r j v) i u ≡ with_record (with_record r i u) j v
 swap r i j u v h =

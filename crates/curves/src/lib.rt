@@ -102,7 +102,7 @@ impl Block {
 pub fn change(curves: &[u32], blocks: &mut [u8], lengths: &mut [u16], payload: &[u8])
     requires sound_curves { SoundCurves (curves_of curves.now) blocks.old × SoundLengths (curves_of curves.now) lengths.old }
     requires block_fits { BlockFits (curves_of curves.now) payload.now }
-    ensures { let curves = curves_of curves.entry.now in
+    ensures { let curves = curves_of curves.now in
         let place = place_of curves payload.now in
         let bytes = drop 3 payload.now in
         let block = named_block curves blocks.old payload.now in
@@ -128,7 +128,7 @@ pub fn tell(
     requires sound_curves { SoundCurves (curves_of curves.now) blocks.now × SoundLengths (curves_of curves.now) lengths.now }
     requires block_read { BlockRead (curves_of curves.now) payload.now }
     requires at_in_bounds { at + 4099 ≤ length reply.old }
-    ensures { let payload = payload.entry.now in
+    ensures { let payload = payload.now in
         let content = named_content (curves_of curves.now) blocks.now lengths.now payload in
         PayloadAt reply.old at (payload ++ content) result reply.new }
 {

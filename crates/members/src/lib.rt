@@ -78,7 +78,7 @@ fn read_turn(rest: u64, n: usize, values: &[u8], reply: &mut [u8], run: Run) -> 
 pub fn read_members(sizes: &[u8], set: u64, values: &[u8], reply: &mut [u8], at: usize) -> usize
     requires sound { Sound sizes.now values.now }
     requires at_in_bounds { at + 4096 ≤ length reply.old }
-    ensures { let sizes = sizes.entry.now in
+    ensures { let sizes = sizes.now in
         BytesAt (values_of (cut sizes values.now) (members_of set sizes)) 4096 reply.old at result reply.new }
 {
     // all variables, as of group 0: their values are the store as it stands
@@ -144,7 +144,7 @@ pub fn change_members(
 )
     requires sound { Sound sizes.now values.old }
     requires sizes_in_bounds { front + set_bytes set sizes.now ≤ length payload.now }
-    ensures { let sizes = sizes.entry.now in
+    ensures { let sizes = sizes.now in
         let parts = cut (map (size_at sizes) (members_of set sizes)) (drop front payload.now) in
         cut sizes values.new ≡ edited op (members_of set sizes) parts (cut sizes values.old) }
 {

@@ -72,7 +72,7 @@ fn summed(blocks: &[u8], lengths: &[u16], size: usize) -> [u8; 16]
 pub fn renew(curves: &[u32], blocks: &[u8], lengths: &[u16], sums: &mut [u8], c: CurveNumber)
     requires sound_curves { SoundCurves (curves_of curves.now) blocks.now × SoundLengths (curves_of curves.now) lengths.now }
     requires sound_sums { SoundSums (curves_of curves.now) sums.old × (c.0 < length (curves_of curves.now)) }
-    ensures { let curves = curves_of curves.entry.now in
+    ensures { let curves = curves_of curves.now in
         let sum = digest (content_in curves blocks.now lengths.now c) in
         sums_in curves sums.new ≡ set (sums_in curves sums.old) c.0 sum }
 {
@@ -90,7 +90,7 @@ pub fn renew(curves: &[u32], blocks: &[u8], lengths: &[u16], sums: &mut [u8], c:
 fn renew_all(curves: &[u32], blocks: &[u8], lengths: &[u16], sums: &mut [u8])
     requires sound_curves { SoundCurves (curves_of curves.now) blocks.now × SoundLengths (curves_of curves.now) lengths.now }
     requires sound_sums { SoundSums (curves_of curves.now) sums.old }
-    ensures { let curves = curves_of curves.entry.now in
+    ensures { let curves = curves_of curves.now in
         sums_in curves sums.new ≡ fresh_sums curves blocks.now lengths.now (length curves) }
 {
     let n = records::curve_count(curves);
@@ -134,7 +134,7 @@ fn fill_all(curves: &[u32], lengths: &mut [u16])
 pub fn fresh(curves: &[u32], blocks: &[u8], lengths: &mut [u16], sums: &mut [u8])
     requires sound_curves { SoundCurves (curves_of curves.now) blocks.now × SoundSums (curves_of curves.now) sums.old }
     requires lengths_len { length lengths.old ≡ length (block_sizes (curves_of curves.now)) }
-    ensures { let curves = curves_of curves.entry.now in
+    ensures { let curves = curves_of curves.now in
         (lengths.new ≡ block_sizes curves)
         × (sums_in curves sums.new ≡ fresh_sums curves blocks.now (block_sizes curves) (length curves)) }
 {

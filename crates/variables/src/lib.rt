@@ -136,7 +136,7 @@ fn change_one(
 )
     requires sound { Sound sizes.now values.old }
     requires i_in_bounds { (i.0 < length sizes.now) × (length bytes.now ≡ front + size_at sizes.now i) }
-    ensures { let sizes = sizes.entry.now in
+    ensures { let sizes = sizes.now in
         cut sizes values.new ≡ edited op (i ∷ []) (drop front bytes.now ∷ []) (cut sizes values.old) }
 {
     let at = lists::offset(sizes, i.0);
@@ -147,8 +147,8 @@ fn change_one(
 pub fn change(sizes: &[u8], values: &mut [u8], op: Operation, payload: &[u8], front: usize)
     requires sound { Sound sizes.now values.old }
     requires one_fits { OneFits sizes.now payload.now front }
-    ensures { let sizes = sizes.entry.now in
-        let payload = payload.entry.now in
+    ensures { let sizes = sizes.now in
+        let payload = payload.now in
         cut sizes values.new ≡ edited op (variable_at payload 0 ∷ []) (drop front payload ∷ []) (cut sizes values.old) }
 {
     change_one(
@@ -165,7 +165,7 @@ pub fn change(sizes: &[u8], values: &mut [u8], op: Operation, payload: &[u8], fr
 pub fn store(sizes: &[u8], values: &mut [u8], i: VariableNumber, bytes: &[u8])
     requires sound { Sound sizes.now values.old }
     requires i_in_bounds { (i.0 < length sizes.now) × (length bytes.now ≡ size_at sizes.now i) }
-    ensures { let sizes = sizes.entry.now in
+    ensures { let sizes = sizes.now in
         cut sizes values.new ≡ edited Replace (i ∷ []) (bytes.now ∷ []) (cut sizes values.old) }
 {
     change_one(sizes, values, i, Operation::Replace, bytes, 0);

@@ -1,12 +1,12 @@
 -- `bsmp_write_unsigned` meets its contract: the columns say what the lent records do (`Same.writing_same`). Assumes nothing.
-use Rattle.std.proofs.Common.{◌∙◌, ap, false, pos}
-use Rattle.records.specs.declared.Records.{Records}
-use Rattle.records.specs.Lending.{records_of}
+use Rattle.std.proofs.Common.{false, List, pos}
+use Rattle.bsmp.specs.declared.Variable.{Variable}
 use Rattle.plain.specs.Calls.{writing_of}
-use Rattle.bsmp_c.proofs.Same.{writing_same}
+use Rattle.bsmp_c.proofs.Same.{of_lent, writing_same}
 use Rattle.bsmp_c.proofs.bsmp_write_unsigned.Goals as goal
 
 pub returns : goal.returns
 returns c =
     let a = c.args in
-    c.write_unsigned.ensures ∙ ap (λ (r : Records). writing_of (records_of r) a.variable false (pos a.number) a.buffer.now) c.take-count.ensures ∙ writing_same a.variables.now a.variable false (pos a.number) a.buffer.now
+    of_lent (λ (vs : List Variable). writing_of vs a.variable false (pos a.number) a.buffer.now) a.variables.now
+    (writing_same a.variables.now a.variable false (pos a.number) a.buffer.now) _ _ c.write_unsigned.ensures c.take-count.ensures
