@@ -55,6 +55,7 @@ fn run(payload: &[u8]) -> Spoken
 }
 
 // What a command that passed is answered, out of the state after it; a payload goes into the reply from `at` on.
+#[tactic(auto, using(crate::proofs::Answers::answer_told, crate::proofs::Answers::answer_done, crate::proofs::Answers::answer_run), unfolding(bsmp::specs::Message::line, bsmp::specs::Message::spoken, bsmp::specs::Message::variable_list, bsmp::specs::Message::group_list, bsmp::specs::Message::curve_list, bsmp::specs::Message::function_list, bsmp::specs::Board::members, bsmp::specs::Board::writable_group))]
 pub fn answer(
     command: Command,
     sizes: &[u8],

@@ -184,6 +184,7 @@ fn with_groups(known: Known, groups: u64) -> Known
 }
 
 // What an answer to a request teaches: `ids` are those of the new group that was asked for, `payload` is the answer's.
+#[tactic(auto, using(crate::proofs::Taught::nothing_learned), unfolding(asking::specs::Learning::taught, asking::specs::Learning::followed, asking::specs::Reply::tells, asking::specs::Reply::wanted, asking::specs::Request::fields_of))]
 fn learn(
     known: Known,
     sizes: &mut [u8; 64],
