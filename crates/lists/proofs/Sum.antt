@@ -1,11 +1,12 @@
 -- Sums of lists, with the laws that callers cite. Assumes nothing.
-use mathlib.Core.Path.{◌≡◌, refl}
+use mathlib.Core.Path.{◌≡◌, refl, ◌∙◌}
 use mathlib.Core.List.{List, [], ◌∷◌, ◌++◌}
-use Prim.Native.Nat.{ℕ, zero, suc, ◌+◌, ◌≤◌, ◌<◌}
+use Prim.Native.Nat.{ℕ, zero, suc, ◌+◌, ◌%◌, ◌≤◌, ◌<◌}
 use native.Mathlib.Numerals.{add-one}
 use native.Mathlib.Omega.{arith}
 use lib.ListN.{length, take, drop, get_or, drop_of_length-le}
 use Rattle.bsmp.specs.Base.{sum}
+use Rattle.std.specs.Prelude.{fold}
 use lib.Seq.{take-suc, drop-cons}
 
 pub total_nil : sum [] ≡ 0
@@ -43,3 +44,9 @@ total_within l n h = omega (arith, total_take l n h, total_split l (n + 1))
 -- past the end nothing is left
 pub total_end : (l : List ℕ) (i : ℕ) → length l ≤ i → sum (drop i l) ≡ 0
 total_end l i h = rw (drop_of_length-le l h, total_nil)
+
+-- the bytes added up as the machine does, each sum modulo 256
+pub sum_wraps : (a : ℕ) (l : List ℕ) → fold (λ s x. (s + x) % 256) a l % 256 ≡ (a + sum l) % 256
+unfolding sum
+sum_wraps a [] = omega arith
+sum_wraps a (x ∷ l) = sum_wraps ((a + x) % 256) l ∙ omega arith

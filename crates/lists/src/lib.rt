@@ -12,13 +12,7 @@ use bsmp::Operation;
 pub fn byte_sum(bytes: &[u8]) -> u8
     ensures { result ≡ sum bytes.now % 256 }
 {
-    let mut s: u16 = 0;
-    let mut i = 0;
-    while i < bytes.len() {
-        s = (s + bytes[i] as u16) % 256;
-        i += 1;
-    }
-    s as u8
+    bytes.iter().fold(0, |sum, byte| sum.wrapping_add(*byte))
 }
 
 // The sum of the first n sizes.
@@ -27,12 +21,10 @@ pub fn offset(sizes: &[u8], n: usize) -> usize
     ensures { result ≡ sum (take n sizes.now) }
 {
     let mut sum: u16 = 0;
-    let mut i = 0;
-    while i < n {
-        sum += sizes[i] as u16;
-        i += 1;
+    for size in &sizes[..n] {
+        sum += u16::from(*size);
     }
-    sum as usize
+    usize::from(sum)
 }
 
 // One byte, with the mask's bits on, off or inverted, or with only them kept.
@@ -50,19 +42,18 @@ pub fn masked_byte(op: Operation, x: u8, m: u8) -> u8
     }
 }
 
-// The mask on the front of dst.
+// The mask on the front of dst. By an index into dst, and not by zip: once a zip's `iter_mut` is over, a proof knows no byte of dst.
 pub fn mask_into(dst: &mut [u8], op: Operation, mask: &[u8])
     requires { length mask.now ≤ length dst.old }
     ensures { dst.new ≡ put dst.old 0 (changed op dst.old mask.now) }
 {
-    let mut i = 0;
-    while i < mask.len() {
-        dst[i] = masked_byte(op, dst[i], mask[i]);
-        i += 1;
+    for (i, m) in mask.iter().enumerate() {
+        dst[i] = masked_byte(op, dst[i], *m);
     }
 }
 
 // The n bytes of the store from `at` on, changed by the n bytes of the payload from `from` on.
+#[tactic(auto, using(crate::proofs::Mask::change_back))]
 pub fn change_value(
     store: &mut [u8],
     at: usize,
