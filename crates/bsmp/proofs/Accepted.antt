@@ -8,13 +8,11 @@ use Prim.Native.Nat.{ℕ}
 use native.Mathlib.Omega.{arith}
 use lib.ListN.{drop}
 use Rattle.bsmp.specs.Base.{some, Test, byte_at}
-use Rattle.bsmp.specs.Codes.{command_of}
+use Rattle.bsmp.specs.Codes.{command_of, Check, Pass, Fail}
 use Rattle.bsmp.specs.Board.{Layout, is_same, marked}
 use Rattle.bsmp.specs.Message.{Line, written, told, touched, last_tests, tests_of, form_tests, check, judge, asked}
 use Rattle.bsmp.specs.declared.VariableNumber.{VariableNumber}
 use Rattle.bsmp.specs.declared.WireError.{WireError}
-use Rattle.bsmp.specs.declared.Check.{Check}
-use Rattle.bsmp.specs.declared.Check.TheVariants.{Pass, Fail}
 use Rattle.bsmp.proofs.Bools.{or_false, or_true}
 use Rattle.bsmp.proofs.Lists.{some_append}
 use Rattle.bsmp.proofs.Chain.{clear, first_case, first_clear}

@@ -1,5 +1,6 @@
 -- Busy marks (02, 2026-01): while a variable is busy no packet shows anything of it or changes it, so half a value never travels. And
 -- what goes by no mark. Assumes nothing.
+use Rattle.std.specs.Prelude.{Ok, Err}
 use mathlib.Core.Path.{◌≡◌, refl, sym, ap, ap₂, ◌∙◌}
 use mathlib.Core.Bool.{Bool, true, false, ◌||◌, true≢false}
 use mathlib.Core.List.{List, [], ◌∷◌, map, append-nil}
@@ -8,7 +9,7 @@ use lib.Dec.{ltb}
 use lib.ListN.{length, drop}
 use borrow.Author.Tests.{ltb-true, not-false}
 use Rattle.bsmp.specs.Base.{some, every, first, byte_at}
-use Rattle.bsmp.specs.Codes.{command_of}
+use Rattle.bsmp.specs.Codes.{command_of, Check, Pass, Fail}
 use Rattle.bsmp.specs.Board.{Table, Layout, layout, State, value_of, is_same, marked, members, faults}
 use Rattle.bsmp.specs.Message.{Change, nothing, edit, fill, renew, regroup, Line, written, touched, last_tests, form_tests, line, check, judge, asked, group_id_at, variable_at, no_variable}
 use Rattle.bsmp.specs.Message.{after, state_after, carried, handled}
@@ -18,8 +19,6 @@ use Rattle.bsmp.specs.declared.VariableNumber.{VariableNumber}
 use Rattle.bsmp.specs.declared.Command.{Command}
 use Rattle.bsmp.specs.declared.Command.TheVariants.{Version, ListVariables, ListGroups, ShowGroup, ListCurves, ReadSum, ListFunctions, ReadVariable, ReadGroup, WriteVariable, WriteGroup}
 use Rattle.bsmp.specs.declared.Command.TheVariants.{MaskVariable, MaskGroup, WriteRead, MakeGroup, RemoveGroups, ReadBlock, WriteBlock, RenewSum, RunFunction, Unknown}
-use Rattle.bsmp.specs.declared.Check.{Check}
-use Rattle.bsmp.specs.declared.Check.TheVariants.{Pass, Fail}
 use Rattle.bsmp.proofs.Bools.{or_false, not_so, and_true}
 use Rattle.bsmp.proofs.Chain.{clear, clear_at, first_case, first_tail}
 use Rattle.bsmp.proofs.Accepted.{told_free, written_free}
@@ -66,8 +65,8 @@ module _ (t : Table) (a : Place) (v : VariableNumber) where
   stays_by : (busy : ℕ) (m : List ℕ) (s : State) → marked busy v ≡ true → (c : Check) → judge (layout t) s.groups busy m ≡ c
       → value_of (state_after (asked (layout t) s.groups m) c s) v ≡ value_of s v
   unfolding state_after
-  stays_by busy m s h (Fail e) q = refl
-  stays_by busy m s h Pass q = after_others _ s (not_so _ (λ k. true≢false (sym h ∙ written_free (layout t) s.groups busy m q v k)))
+  stays_by busy m s h (Err e) q = refl
+  stays_by busy m s h (Ok _) q = after_others _ s (not_so _ (λ k. true≢false (sym h ∙ written_free (layout t) s.groups busy m q v k)))
 
   pub busy_stays : (busy room : ℕ) (p : List ℕ) (s : State) → marked busy v ≡ true → value_of (packet t a busy room p s).state v ≡ value_of s v
   unfolding packet served handled carried

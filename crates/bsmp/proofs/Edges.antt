@@ -16,7 +16,7 @@ use Rattle.bsmp.specs.declared.GroupNumber.{GroupNumber}
 use Rattle.bsmp.specs.declared.Variable.{Variable}
 use Rattle.bsmp.specs.declared.Curve.{Curve}
 use Rattle.bsmp.specs.declared.Function.{Function}
-use Rattle.bsmp.specs.declared.Check.TheVariants.{Pass}
+use Rattle.bsmp.specs.Codes.{Pass}
 use Rattle.bsmp.specs.declared.Refusal.TheVariants.{WrongByteCount, WrongKind, DoesNotFit}
 use Rattle.bsmp.proofs.Computes.{computes}
 

@@ -1,5 +1,6 @@
 -- The steps of demand 3, once for every relation of two boards that hides something: from what is hidden being kept by each change, to runs of
 -- events that all end alike until one tells it. Apart has one variable's bytes hidden, Stale those past the blocks' lengths. Assumes nothing.
+use Rattle.std.specs.Prelude.{Ok, Err}
 use mathlib.Core.Path.{◌≡◌, refl, ap₂, subst}
 use mathlib.Core.Logic.{◌↔◌}
 use mathlib.Core.Bool.{Bool, true, false, cond, not, ◌&&◌, false≢true}
@@ -15,8 +16,7 @@ use Rattle.bsmp.specs.declared.VariableNumber.{VariableNumber}
 use Rattle.bsmp.specs.declared.FunctionNumber.{FunctionNumber}
 use Rattle.bsmp.specs.declared.Operation.TheVariants.{Replace}
 use Rattle.bsmp.specs.declared.Refusal.{Refusal}
-use Rattle.bsmp.specs.declared.Check.{Check}
-use Rattle.bsmp.specs.declared.Check.TheVariants.{Pass, Fail}
+use Rattle.bsmp.specs.Codes.{Check}
 use Rattle.bsmp.proofs.Bools.{and_true, and_false}
 use Rattle.bsmp.proofs.Usable.{faults_by}
 
@@ -53,8 +53,8 @@ module _ {R Same : State → State → Type 0} {tell : Answer → Bool} {lasts :
   carried_apart : (due : Bool) (l : Line) (c : Check) (s₁ s₂ : State) → R s₁ s₂
       → Apart R Same (ended due (carried l c s₁)) (ended due (carried l c s₂)) (due && read_by tell l c)
   unfolding carried said state_after
-  carried_apart due l (Fail x) s₁ s₂ h = record { alike = h; same = λ e. refl; shows = λ e. absurd (and_false due e) }
-  carried_apart due l Pass s₁ s₂ h =
+  carried_apart due l (Err x) s₁ s₂ h = record { alike = h; same = λ e. refl; shows = λ e. absurd (and_false due e) }
+  carried_apart due l (Ok _) s₁ s₂ h =
       let k : R (after l.change s₁) (after l.change s₂) = H.kept l.change s₁ s₂ h in
       record { alike = k; same = H.untold _ _ k due l.answer; shows = H.told _ _ k due l.answer }
 

@@ -8,7 +8,7 @@ use Prim.Native.Nat.{ℕ}
 use native.Mathlib.Omega.{arith}
 use lib.ListN.{drop}
 use Rattle.bsmp.specs.Base.{byte_at}
-use Rattle.bsmp.specs.Codes.{command_of}
+use Rattle.bsmp.specs.Codes.{command_of, Fail}
 use Rattle.bsmp.specs.Board.{Table, Layout, layout, State, with_values, with_lengths, with_sums, with_groups, full, fresh, faults}
 use Rattle.bsmp.specs.Message.{Said, replies, runs, line, after, carried, state_after, handled, asked, judge}
 use Rattle.bsmp.specs.Packet.{Place, Ending, reply, silence, run, Result, refuse, Ran, ends, place_tests, packet_tests, served, packet, result_tests, function_result, store_tests, board_store, fresh_board, is_own, destination}
@@ -18,7 +18,6 @@ use Rattle.bsmp.specs.declared.VariableNumber.{VariableNumber}
 use Rattle.bsmp.specs.declared.FunctionNumber.{FunctionNumber}
 use Rattle.bsmp.specs.declared.Refusal.{Refusal}
 use Rattle.bsmp.specs.declared.WireError.{WireError}
-use Rattle.bsmp.specs.declared.Check.TheVariants.{Fail}
 use Rattle.bsmp.specs.declared.Outcome.TheVariants.{Refused}
 use Rattle.bsmp.specs.declared.Command.{Command}
 use Rattle.bsmp.specs.declared.Command.TheVariants.{Version, ListVariables, ListGroups, ShowGroup, ListCurves, ReadSum, ListFunctions, ReadVariable, ReadGroup, WriteVariable, WriteGroup}

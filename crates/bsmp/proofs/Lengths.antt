@@ -12,7 +12,7 @@ use lib.Seq.{drop_at, get_or-set_same, get_or-set_other, length-take-le}
 use borrow.Author.Tests.{eqb-true, leb-true, not-false}
 use Rattle.rfc1321.specs.Md5.{digest}
 use Rattle.bsmp.specs.Base.{byte_at, word_at, join, up_from, within}
-use Rattle.bsmp.specs.Codes.{command_of}
+use Rattle.bsmp.specs.Codes.{command_of, Pass}
 use Rattle.bsmp.specs.Board.{Table, Layout, layout, State, with_blocks, with_lengths, block_of, curve_of, block_sizes, block_place, content_of, curve_sum, fitting, usable}
 use Rattle.bsmp.specs.Message.{fill, curve_at, tests_of, asked, line, replies, filled, after, spoken, said, state_after, carried, handled, judge}
 use Rattle.bsmp.specs.Packet.{Place, Ending, reply, silence, refused}
@@ -21,7 +21,6 @@ use Rattle.bsmp.specs.Examples.{hex, table_a, place_a, state_a}
 use Rattle.bsmp.specs.declared.CurveNumber.{CurveNumber}
 use Rattle.bsmp.specs.declared.Command.TheVariants.{ReadSum, ReadBlock, WriteBlock, RenewSum}
 use Rattle.bsmp.specs.declared.Refusal.TheVariants.{BoardUnusable}
-use Rattle.bsmp.specs.declared.Check.TheVariants.{Pass}
 use Rattle.bsmp.proofs.Computes.{computes}
 use Rattle.bsmp.proofs.Bools.{and_true}
 use Rattle.bsmp.proofs.Chain.{clear, clear_at}

@@ -1,4 +1,5 @@
 -- What `reads` says: the same on both boards, and exactly 01's three ways to read, of variables that are not busy. Assumes nothing.
+use Rattle.std.specs.Prelude.{Ok, Err}
 use mathlib.Core.Path.{◌≡◌, refl, sym, ap, ap₂, ◌∙◌}
 use mathlib.Core.Logic.{◌↔◌, ◌⊎◌, inl, inr}
 use mathlib.Core.Bool.{Bool, true, false, cond, ◌&&◌, ◌||◌, false≢true}
@@ -7,7 +8,7 @@ use Prim.Native.Nat.{ℕ}
 use lib.ListN.{drop}
 use borrow.Author.Tests.{eq-eqb}
 use Rattle.bsmp.specs.Base.{some, first, Test, byte_at}
-use Rattle.bsmp.specs.Codes.{command_of}
+use Rattle.bsmp.specs.Codes.{command_of, Check, Pass}
 use Rattle.bsmp.specs.Board.{Table, Layout, layout, State, is_same, marked, members, usable, faults}
 use Rattle.bsmp.specs.Message.{Line, line, touched, form_tests, judge, asked, variable_at, group_id_at}
 use Rattle.bsmp.specs.Packet.{Place, place_tests, packet_tests, is_own, destination, message}
@@ -17,8 +18,6 @@ use Rattle.bsmp.specs.declared.Refusal.{Refusal}
 use Rattle.bsmp.specs.declared.Command.{Command}
 use Rattle.bsmp.specs.declared.Command.TheVariants.{Version, ListVariables, ListGroups, ShowGroup, ListCurves, ReadSum, ListFunctions, ReadVariable, ReadGroup, WriteVariable, WriteGroup}
 use Rattle.bsmp.specs.declared.Command.TheVariants.{MaskVariable, MaskGroup, WriteRead, MakeGroup, RemoveGroups, ReadBlock, WriteBlock, RenewSum, RunFunction, Unknown}
-use Rattle.bsmp.specs.declared.Check.{Check}
-use Rattle.bsmp.specs.declared.Check.TheVariants.{Pass, Fail}
 use Rattle.bsmp.proofs.Bools.{or_false, or_nothing, and_true}
 use Rattle.bsmp.proofs.Chain.{clear, first_clear}
 use Rattle.bsmp.proofs.Usable.{clear_usable, usable_clear}
@@ -93,8 +92,8 @@ module _ (l : Layout) (gs : List ℕ) (busy : ℕ) (v : VariableNumber) (p : Lis
   way_tells k (inr (inr w)) = rw w.0 (same_one v _ w.1, ap₂ (λ x y. x || (y || false)) (ap (marked busy) (sym w.1) ∙ w.2) w.3, refl)
 
 read_passed : (v : VariableNumber) (n : Line) (c : Check) → read_by (tells v) n c ≡ true → (c ≡ Pass) × (tells v n.answer ≡ true)
-read_passed v n (Fail e) h = absurd (false≢true h)
-read_passed v n Pass h = (refl, h)
+read_passed v n (Err e) h = absurd (false≢true h)
+read_passed v n (Ok _) h = (refl, h)
 
 -- a chain that is false where a test is broken
 first_true : (ts : List (Test Refusal)) (b : Bool) → first ts (λ r. false) b ≡ true → clear ts × (b ≡ true)

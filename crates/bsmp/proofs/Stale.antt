@@ -1,5 +1,6 @@
 -- Stale bytes (02, 2026-03): what stands past a block's length is told by no answer and no sum, so two boards that differ only there end alike
 -- for ever. Hidden's steps, with those bytes hidden; only a fresh board, which makes all blocks full, brings them back. Assumes nothing.
+use Rattle.std.specs.Prelude.{Ok, Err}
 use mathlib.Core.Path.{◌≡◌, refl, sym, ap, ap₂, ◌∙◌}
 use mathlib.Core.Bool.{Bool, true, false, not, true≢false}
 use mathlib.Core.List.{List, [], ◌∷◌, ◌++◌, map}
@@ -12,8 +13,7 @@ use Rattle.bsmp.specs.Board.{Table, State, block_of}
 use Rattle.bsmp.specs.Message.{Change, nothing, edit, fill, renew, regroup, Answer, say, tell, show, attest, call, Line, edited, filled, after, values_of, replies, spoken}
 use Rattle.bsmp.specs.Packet.{Place, ends, is_own, destination}
 use Rattle.bsmp.specs.Apart.{AlikeButStale, Event, arrives, returns, stores, freshens, read_by, reads_by, happen, endings, later, unread_by, is_fresh, never_fresh}
-use Rattle.bsmp.specs.declared.Check.{Check}
-use Rattle.bsmp.specs.declared.Check.TheVariants.{Pass, Fail}
+use Rattle.bsmp.specs.Codes.{Check}
 use Rattle.bsmp.proofs.Bools.{and_false, not_so}
 use Rattle.bsmp.proofs.Usable.{usable_by}
 use Rattle.bsmp.proofs.Lists.{map_set, length_at, count_same}
@@ -92,8 +92,8 @@ hidden = record {
 }
 
 none_read : (n : Line) (c : Check) → read_by none n c ≡ false
-none_read n (Fail e) = refl
-none_read n Pass = refl
+none_read n (Err e) = refl
+none_read n (Ok _) = refl
 
 module _ (t : Table) (a : Place) where
   never_read : (e : Event) (s : State) → reads_by none t a e s ≡ false

@@ -11,7 +11,7 @@ use lib.ListN.{length, drop, length-map}
 use lib.Seq.{get_or-set_same, get_or-set_other}
 use borrow.Author.Tests.{ltb-true, not-false}
 use Rattle.bsmp.specs.Base.{some, byte_at, Test}
-use Rattle.bsmp.specs.Codes.{command_of}
+use Rattle.bsmp.specs.Codes.{command_of, Pass}
 use Rattle.bsmp.specs.Board.{curve, Table, Layout, layout, State, sum_of, curve_sum, full, fresh, marked, usable}
 use Rattle.bsmp.specs.Message.{line, curve_at, names_curve, touched, form_tests, replies, after, spoken, said, state_after, carried, handled, asked, judge}
 use Rattle.bsmp.specs.Packet.{Ending, reply, silence, fresh_board}
@@ -20,7 +20,6 @@ use Rattle.bsmp.specs.Examples.{hex, table_a, place_a, state_a}
 use Rattle.bsmp.specs.declared.CurveNumber.{CurveNumber}
 use Rattle.bsmp.specs.declared.Command.TheVariants.{ReadSum, RenewSum}
 use Rattle.bsmp.specs.declared.WireError.{WireError}
-use Rattle.bsmp.specs.declared.Check.TheVariants.{Pass}
 use Rattle.bsmp.proofs.Computes.{computes}
 use Rattle.bsmp.proofs.Chain.{clear, clear_at}
 use Rattle.bsmp.proofs.Usable.{usable_parts}

@@ -14,13 +14,12 @@ use borrow.Author.Tests.{eq-eqb, eqb-false, le-ltb, lt-ltb, lt-leb, leb-true}
 use Rattle.bsmp.specs.Base.{sum, some, byte_at}
 use Rattle.bsmp.specs.Board.{variable, Table, layout, State, with_groups, set_of, variable_rules, usable, usable_variables, faults}
 use Rattle.bsmp.specs.Message.{line, message_of, check, judge, asked, spoken, said, state_after, after, carried, handled}
-use Rattle.bsmp.specs.Codes.{command_of}
+use Rattle.bsmp.specs.Codes.{command_of, Pass}
 use Rattle.bsmp.specs.Packet.{Place, Ending, reply, Result, refuse, usable_place, checksum, packed, frame, ends, place_tests, packet_tests, served, packet, message}
 use Rattle.bsmp.specs.Number.{in_range, record_of, reading_tests, Reading, is, reading, bytes_of, is_big, kind_at}
 use Rattle.bsmp.specs.Apart.{Event, answer_of, later}
 use Rattle.bsmp.specs.declared.VariableNumber.{VariableNumber}
 use Rattle.bsmp.specs.declared.Variable.{Variable}
-use Rattle.bsmp.specs.declared.Check.TheVariants.{Pass}
 use Rattle.bsmp.proofs.Bools.{and_true, all_at}
 use Rattle.bsmp.proofs.Chain.{clear, first_clear}
 use Rattle.bsmp.proofs.Usable.{usable_parts, usable_clear}

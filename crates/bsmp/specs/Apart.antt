@@ -1,6 +1,6 @@
 -- Demand 3: what is said of two boards that differ in one variable's bytes, over the definition and over what is lent; and in the same words
 -- of two that differ in bytes past the blocks' lengths (02, 2026-03). Assumes nothing.
-use Rattle.std.specs.Prelude.{◌≡◌, ◌↔◌, ◌≢◌, Bool, true, false, not, ◌&&◌, List, [], ◌∷◌, map, ℕ, ◌<◌, length, take}
+use Rattle.std.specs.Prelude.{◌≡◌, ◌↔◌, ◌≢◌, Bool, true, false, not, ◌&&◌, List, [], ◌∷◌, map, ℕ, ◌<◌, length, take, Ok, Err}
 use Rattle.bsmp.specs.Base.{some, every, first}
 use Rattle.bsmp.specs.Board.{Table, Layout, layout, State, value_of, block_sizes, content_of, is_same, faults}
 use Rattle.bsmp.specs.Message.{Answer, Line, told, asked, judge}
@@ -8,8 +8,7 @@ use Rattle.bsmp.specs.Packet.{Place, Ending, reply, silence, run, Result, is_own
 use Rattle.bsmp.specs.Store.{Lent, held, lent_of, bytes_in, content_in, Left, leaves}
 use Rattle.bsmp.specs.declared.VariableNumber.{VariableNumber}
 use Rattle.bsmp.specs.declared.FunctionNumber.{FunctionNumber}
-use Rattle.bsmp.specs.declared.Check.{Check}
-use Rattle.bsmp.specs.declared.Check.TheVariants.{Pass, Fail}
+use Rattle.bsmp.specs.Codes.{Check}
 use Rattle.bsmp.specs.declared.Outcome.{Outcome}
 use Rattle.bsmp.specs.declared.Outcome.TheVariants.{Reply, Silence, Run, Refused}
 
@@ -52,8 +51,8 @@ tells v a = some (is_same v) (told a)
 -- the same of whatever else answers may tell
 module _ (tell : Answer → Bool) where
   abbrev pub read_by : Line → Check → Bool
-  read_by l (Fail e) = false
-  read_by l Pass = tell l.answer
+  read_by l (Err e) = false
+  read_by l (Ok _) = tell l.answer
 
   abbrev pub reads_in : Layout → (groups : List ℕ) → (busy : ℕ) → (message : List ℕ) → Bool
   reads_in l gs busy m = read_by (asked l gs m) (judge l gs busy m)

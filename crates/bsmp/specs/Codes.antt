@@ -1,5 +1,5 @@
 -- 01's numbers for commands, operations, wire errors and local refusals, and ours for kinds. Assumes nothing.
-use Rattle.std.specs.Prelude.{Bool, true, false, cond, List, [], ◌∷◌, ℕ, eqb}
+use Rattle.std.specs.Prelude.{Bool, true, false, cond, List, [], ◌∷◌, ℕ, eqb, Result, Ok, Err}
 use Rattle.bsmp.specs.declared.Command.{Command}
 use Rattle.bsmp.specs.declared.Command.TheVariants.{Version, ListVariables, ListGroups, ShowGroup, ListCurves, ReadSum, ListFunctions, ReadVariable, ReadGroup, WriteVariable, WriteGroup}
 use Rattle.bsmp.specs.declared.Command.TheVariants.{MaskVariable, MaskGroup, WriteRead, MakeGroup, RemoveGroups, ReadBlock, WriteBlock, RenewSum, RunFunction, Unknown}
@@ -57,6 +57,16 @@ kinds = (0, K.Plain) ∷ (1, K.Number false true) ∷ (2, K.Number false false) 
 
 unfoldable pub kind_of : ℕ → Kind
 kind_of = coded kinds K.Unknown
+
+-- a message passes all its tests, or gets the first error
+abbrev pub Check : Type 0
+Check = Result (Unit {0}) WireError
+
+abbrev pub Pass : Check
+Pass = Ok tt
+
+abbrev pub Fail : WireError → Check
+Fail = Err
 
 abbrev pub error_code : WireError → ℕ
 error_code Malformed = 0xE1

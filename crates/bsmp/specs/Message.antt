@@ -1,9 +1,9 @@
 -- A message: what it asks for, the first error that it meets, what it changes and what is said to it. Nothing here knows how
 -- the message came: addresses and checksums stand above, in Packet. Assumes nothing.
-use Rattle.std.specs.Prelude.{Bool, true, false, cond, not, ◌||◌, List, [], ◌∷◌, ◌++◌, map, ℕ, ◌+◌, ◌-◌, ◌*◌, leb, ltb, eqb, length, drop, set, get_or}
+use Rattle.std.specs.Prelude.{Bool, true, false, cond, not, ◌||◌, List, [], ◌∷◌, ◌++◌, map, ℕ, ◌+◌, ◌-◌, ◌*◌, leb, ltb, eqb, length, drop, set, get_or, Ok, Err}
 use Rattle.std.specs.Int.Bits.{bit_and, bit_or, bit_xor}
 use Rattle.bsmp.specs.Base.{up_from, some, join, cut, ascending, within, bit, byte_at, word_at, word, Test, test, first}
-use Rattle.bsmp.specs.Codes.{command_of, operation_of, no_operation, error_code}
+use Rattle.bsmp.specs.Codes.{command_of, operation_of, no_operation, error_code, Check, Pass, Fail}
 use Rattle.rfc1321.specs.Md5.{digest}
 use Rattle.bsmp.specs.Board.{variable, group, curve, function, Layout, State, with_values, with_blocks, with_lengths, with_sums, with_groups, block_of, sum_of, content_of, contents_of, is_writable, size_of, marked}
 use Rattle.bsmp.specs.Board.{members, group_bytes, writable_group, group_count, set_of, curve_of, block_place, function_of}
@@ -19,8 +19,6 @@ use Rattle.bsmp.specs.declared.Operation.{Operation}
 use Rattle.bsmp.specs.declared.Operation.TheVariants.{Replace, TurnOn, TurnOff, Invert, KeepOnly, Other}
 use Rattle.bsmp.specs.declared.WireError.{WireError}
 use Rattle.bsmp.specs.declared.WireError.TheVariants.{Malformed, Unsupported, BadId, BadValue, BadSize, ReadOnly, Full, Busy}
-use Rattle.bsmp.specs.declared.Check.{Check}
-use Rattle.bsmp.specs.declared.Check.TheVariants.{Pass, Fail}
 
 -- what is done about a message: one change of the state, and one answer out of the state after it -------------------------
 pub data Change : Type 0 where
@@ -328,13 +326,13 @@ spoken (call f i) s = runs f i
 
 -- a message whose check gave v: the state after it ("an error changes values, curves and groups in no byte") ..
 unfoldable pub state_after : Line → Check → State → State
-state_after l (Fail e) s = s
-state_after l Pass s = after l.change s
+state_after l (Err e) s = s
+state_after l (Ok _) s = after l.change s
 
 -- .. and what is said, out of that state ("wire errors, each an empty payload")
 unfoldable pub said : Line → Check → State → Said
-said l (Fail e) s = replies (error_code e) []
-said l Pass s = spoken l.answer s
+said l (Err e) s = replies (error_code e) []
+said l (Ok _) s = spoken l.answer s
 
 -- a message, judged and carried out
 pub record Handled : Type 0 where

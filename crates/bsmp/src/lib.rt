@@ -59,11 +59,13 @@ impl Kind {
     pub const SIGNED_BIG: u8 = 3;
 
     pub const SIGNED_LITTLE: u8 = 4;
+}
+
+impl From<u8> for Kind {
+    ghost from_gives = { λ number kind. kind ≡ kind_of number };
 
     #[tactic(auto, unfolding(crate::specs::Codes::kind_of))]
-    pub fn of(number: u8) -> Kind
-        ensures { result ≡ kind_of number }
-    {
+    fn from(number: u8) -> Kind {
         match number {
             Kind::PLAIN => Kind::Plain,
             Kind::UNSIGNED_BIG => Kind::Number {
@@ -111,40 +113,34 @@ impl Operation {
 
     pub const AND: u8 = 0x41;
 
-    #[tactic(auto, unfolding(crate::specs::Codes::operation_of))]
-    pub fn of(code: u8) -> Operation
-        ensures { result ≡ operation_of code }
-    {
-        match code {
-            Operation::SET => Operation::TurnOn,
-            Operation::OR => Operation::TurnOn,
-            Operation::CLEAR => Operation::TurnOff,
-            Operation::TOGGLE => Operation::Invert,
-            Operation::XOR => Operation::Invert,
-            Operation::AND => Operation::KeepOnly,
-            _ => Operation::Other,
-        }
-    }
-
     pub fn is_other(self) -> bool
         ensures { result ≡ is_other self }
     {
-        match self {
-            Operation::Replace => false,
-            Operation::TurnOn => false,
-            Operation::TurnOff => false,
-            Operation::Invert => false,
-            Operation::KeepOnly => false,
-            Operation::Other => true,
+        matches!(self, Operation::Other)
+    }
+}
+
+impl From<u8> for Operation {
+    ghost from_gives = { λ code operation. operation ≡ operation_of code };
+
+    #[tactic(auto, unfolding(crate::specs::Codes::operation_of))]
+    fn from(code: u8) -> Operation {
+        match code {
+            Operation::SET | Operation::OR => Operation::TurnOn,
+            Operation::CLEAR => Operation::TurnOff,
+            Operation::TOGGLE | Operation::XOR => Operation::Invert,
+            Operation::AND => Operation::KeepOnly,
+            _ => Operation::Other,
         }
     }
 }
 
 // Whether the code is none of the six.
+#[tactic(auto, unfolding(crate::specs::Codes::no_operation))]
 pub fn no_operation(code: u8) -> bool
     ensures { result ≡ no_operation code }
 {
-    Operation::of(code).is_other()
+    Operation::from(code).is_other()
 }
 
 #[derive(Clone, Copy)]
@@ -212,11 +208,13 @@ impl Command {
     pub const RENEW_SUM: u8 = 0x42;
 
     pub const RUN_FUNCTION: u8 = 0x50;
+}
+
+impl From<u8> for Command {
+    ghost from_gives = { λ code command. command ≡ command_of code };
 
     #[tactic(auto, unfolding(crate::specs::Codes::command_of))]
-    pub fn of(code: u8) -> Command
-        ensures { result ≡ command_of code }
-    {
+    fn from(code: u8) -> Command {
         match code {
             Command::VERSION => Command::Version,
             Command::LIST_VARIABLES => Command::ListVariables,
@@ -243,87 +241,57 @@ impl Command {
     }
 }
 
-// The wire errors; 01's codes E1 to E8 in this order.
+// The wire errors, each with 01's code, E1 to E8 in this order.
 #[derive(Clone, Copy)]
 pub enum WireError {
-    Malformed,
-    Unsupported,
-    BadId,
-    BadValue,
-    BadSize,
-    ReadOnly,
-    Full,
-    Busy,
+    Malformed = 0xE1,
+    Unsupported = 0xE2,
+    BadId = 0xE3,
+    BadValue = 0xE4,
+    BadSize = 0xE5,
+    ReadOnly = 0xE6,
+    Full = 0xE7,
+    Busy = 0xE8,
 }
 
-impl WireError {
-    pub fn code(self) -> u8
-        ensures { result ≡ error_code self }
-    {
-        match self {
-            WireError::Malformed => 0xE1,
-            WireError::Unsupported => 0xE2,
-            WireError::BadId => 0xE3,
-            WireError::BadValue => 0xE4,
-            WireError::BadSize => 0xE5,
-            WireError::ReadOnly => 0xE6,
-            WireError::Full => 0xE7,
-            WireError::Busy => 0xE8,
-        }
+impl From<WireError> for u8 {
+    ghost from_gives = { λ error code. code ≡ error_code error };
+
+    fn from(error: WireError) -> u8 {
+        error as u8
     }
 }
 
-// A message passes all its tests, or gets the first error.
-#[derive(Clone, Copy)]
-pub enum Check {
-    Pass,
-    Fail(WireError),
-}
-
-// The local refusals; 01's numbers 1 to 12, and 02's 13 and 14, in this order.
+// The local refusals, each with its number: 01's 1 to 12, and 02's 13 and 14, in this order.
 #[derive(Clone, Copy)]
 pub enum Refusal {
-    BoardUnusable,
-    BadAddress,
-    ReplyBufferShort,
-    PacketLength,
-    Checksum,
-    NotForThisBoard,
-    NoSuchFunction,
-    OutputLength,
-    NoSuchVariable,
-    WrongByteCount,
-    WrongKind,
-    DoesNotFit,
-    ReplyUnfit,
-    RequestUnwritable,
+    BoardUnusable = 1,
+    BadAddress = 2,
+    ReplyBufferShort = 3,
+    PacketLength = 4,
+    Checksum = 5,
+    NotForThisBoard = 6,
+    NoSuchFunction = 7,
+    OutputLength = 8,
+    NoSuchVariable = 9,
+    WrongByteCount = 10,
+    WrongKind = 11,
+    DoesNotFit = 12,
+    ReplyUnfit = 13,
+    RequestUnwritable = 14,
 }
 
-impl Refusal {
-    pub fn number(self) -> u8
-        ensures { result ≡ refusal_number self }
-    {
-        match self {
-            Refusal::BoardUnusable => 1,
-            Refusal::BadAddress => 2,
-            Refusal::ReplyBufferShort => 3,
-            Refusal::PacketLength => 4,
-            Refusal::Checksum => 5,
-            Refusal::NotForThisBoard => 6,
-            Refusal::NoSuchFunction => 7,
-            Refusal::OutputLength => 8,
-            Refusal::NoSuchVariable => 9,
-            Refusal::WrongByteCount => 10,
-            Refusal::WrongKind => 11,
-            Refusal::DoesNotFit => 12,
-            Refusal::ReplyUnfit => 13,
-            Refusal::RequestUnwritable => 14,
-        }
+impl From<Refusal> for u8 {
+    ghost from_gives = { λ refusal number. number ≡ refusal_number refusal };
+
+    fn from(refusal: Refusal) -> u8 {
+        refusal as u8
     }
 }
 
 // How a call ends: a reply of n bytes, silence, a function to be run, or a local refusal. A reply's bytes stand in the reply
-// buffer; a function's input, of the length given, stands at place 5 of the packet.
+// buffer; a function's input, of the length given, stands at place 5 of the packet. No Result stands here: the four endings are
+// 01's, which may not change, and the C face gives each its number.
 #[derive(Clone, Copy)]
 pub enum Outcome {
     Reply(usize),
