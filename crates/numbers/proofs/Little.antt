@@ -32,11 +32,6 @@ read_turn big l i at u h k e f =
     let n : i - 1 + 1 ≡ i = omega arith in
     rw (drop_one (turned big l) (i - 1), n, ← f, b) (omega arith)
 
-pub read_end : (l : List ℕ) (i u : ℕ) → i ≤ 0 → u ≡ little (drop i l) → u ≡ little l
-read_end l i u h e =
-    let z : i ≡ 0 = omega arith in
-    rw z at e
-
 -- n bytes make less than 2 ^ (8 n)
 abbrev pub Bytes : List ℕ → Type 0
 Bytes l = (i : ℕ) → Fits w8 (get_or l i 0)

@@ -2,7 +2,7 @@
 use mathlib.Core.Path.{◌≡◌, refl, sym, ap, ◌∙◌}
 use mathlib.Core.Bool.{Bool, true, false}
 use mathlib.Core.List.{List, [], ◌∷◌, ◌++◌, append_assoc, reverse, reverse-cons, reverse-append, reverse-reverse}
-use Prim.Native.Nat.{ℕ, suc, ◌-◌, ◌≤◌, ◌<◌}
+use Prim.Native.Nat.{ℕ, suc, ◌-◌, ◌<◌}
 use native.Mathlib.Omega.{arith}
 use lib.ListN.{length, take, drop, get_or, set, length-reverse, length-drop}
 use lib.Seq.{split_at, set_split, get_or_at, set_at}
@@ -41,13 +41,6 @@ length_turned false l = refl
 pub turned_turned : (big : Bool) (l : List ℕ) → turned big (turned big l) ≡ l
 turned_turned true l = reverse-reverse l
 turned_turned false l = refl
-
-pub place_within : (big : Bool) (n i at : ℕ) → i < n → at ≡ place_of big n i → at < n
-place_within true n i at h e = omega arith
-place_within false n i at h e = omega arith
-
-pub place_before : (big : Bool) (n i at : ℕ) → 0 < i → i ≤ n → at ≡ place_of big n (i - 1) → at < n
-place_before big n i at h k e = place_within big n (i - 1) at (omega arith) e
 
 pub turned_read : (big : Bool) (l : List ℕ) (i : ℕ) → i < length l → get_or (turned big l) i 0 ≡ get_or l (place_of big (length l) i) 0
 turned_read true l i h = read_back l i _ h refl

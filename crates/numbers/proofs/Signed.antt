@@ -1,20 +1,18 @@
 -- Signed numbers as the machine has them, against what the bytes mean. Assumes nothing.
 use mathlib.Core.Path.{◌≡◌, refl, sym, ap, ◌∙◌, subst}
-use mathlib.Core.Bool.{Bool, true, false}
-use mathlib.Core.List.{List}
-use Prim.Native.Nat.{ℕ, zero, suc, ◌+◌, ◌-◌, ◌*◌, ◌/◌, ◌^◌, ◌≤◌, ◌<◌}
+use mathlib.Core.Bool.{true, false}
+use Prim.Native.Nat.{ℕ, zero, suc, ◌-◌, ◌*◌, ◌^◌, ◌≤◌, ◌<◌}
 use native.Mathlib.Nat.{zero-add, not-suc-le-zero}
 use native.Mathlib.Omega.{arith}
 use borrow.Author.Tests.{le-leb, lt-leb, leb-true, lt-ltb, ltb-true}
 use lib.Dec.{T, leb, ltb}
-use lib.ListN.{length}
-use lib.IntN.{ℤ, pos, negsuc, ◌-ℤ◌, nat_abs, +ℤ_comm, -ℤ_one}
+use lib.IntN.{ℤ, pos, negsuc, ◌-ℤ◌}
 use lib.Pow.{pow_pos}
-use lib.Signed.{mag, lt_z, non_neg}
+use lib.Signed.{mag, lt_z}
 use mir.Syntax.{w64}
-use mir.Val.{SFits, Fits, to_z, of_z}
+use mir.Val.{SFits, to_z, of_z}
 use mir.Facts.{to_z_pos, to_z-of_z}
-use Rattle.bsmp.specs.Number.{little, little_bytes, turned, meant, in_range, unsigned_of, number_of, bytes_of}
+use Rattle.bsmp.specs.Number.{meant, in_range, unsigned_of}
 use Rattle.bsmp.proofs.Bools.{bool_eq}
 use Rattle.numbers.specs.Size.{is_size, largest_of, half_of}
 use Rattle.numbers.proofs.Sizes.{span}
@@ -32,51 +30,18 @@ not_below : (z : ℤ) → lt_z z (pos 0) ≡ false → z ≡ pos (mag z)
 not_below (pos n) h = refl
 not_below (negsuc k) h = absurd (subst T h tt)
 
-neg_one_back : (k : ℕ) → negsuc 0 -ℤ negsuc k ≡ pos k
-neg_one_back k = +ℤ_comm (negsuc 0) (pos (suc k)) ∙ -ℤ_one (pos (suc k))
-
 neg_one_less : (k : ℕ) → negsuc 0 -ℤ pos k ≡ negsuc k
 neg_one_less zero = refl
 neg_one_less (suc n) = ap (λ (x : ℕ). negsuc (suc x)) (zero-add n)
-
--- a number that is not negative, cast
-cast_fits : (x : ℤ) (m : ℕ) → x ≡ pos m → m < 2 ^ 63 → T (non_neg x) × Fits w64 (nat_abs x)
-cast_fits x m e h = rw e (tt, record { fits = omega arith })
 
 module _ (z : ℤ) (f : SFits w64 z) where
   pub is_negative : lt_z (seen z) (pos 0) ≡ true → z ≡ negsuc (mag z)
   is_negative h = below_zero z (rw (to_z-of_z f) at h)
 
-  module _ (h : lt_z (seen z) (pos 0) ≡ true) where
-    less : negsuc 0 -ℤ seen z ≡ pos (mag z)
-    less = ap (λ (x : ℤ). negsuc 0 -ℤ x) (to_z-of_z f ∙ is_negative h) ∙ neg_one_back (mag z)
-
-    pub less_fits : SFits w64 (negsuc 0 -ℤ seen z)
-    less_fits = rw less (record { sfits = f.sfits })
-
-    again : seen (negsuc 0 -ℤ seen z) ≡ pos (mag z)
-    again = to_z-of_z less_fits ∙ less
-
-    pub less_cast : T (non_neg (seen (negsuc 0 -ℤ seen z))) × Fits w64 (nat_abs (seen (negsuc 0 -ℤ seen z)))
-    less_cast = cast_fits _ (mag z) again f.sfits
-
-    pub less_is : nat_abs (seen (negsuc 0 -ℤ seen z)) ≡ mag z
-    less_is = ap nat_abs again
-
-  module _ (h : lt_z (seen z) (pos 0) ≡ false) where
-    pub is_positive : seen z ≡ pos (mag z)
-    is_positive = to_z-of_z f ∙ not_below z (rw (to_z-of_z f) at h)
-
-    pub same_cast : T (non_neg (seen z)) × Fits w64 (nat_abs (seen z))
-    same_cast = cast_fits _ (mag z) is_positive f.sfits
-
-    pub same_is : nat_abs (seen z) ≡ mag z
-    same_is = ap nat_abs is_positive
+  pub is_positive : lt_z (seen z) (pos 0) ≡ false → seen z ≡ pos (mag z)
+  is_positive h = to_z-of_z f ∙ not_below z (rw (to_z-of_z f) at h)
 
 -- ranges ------------------------------------------------------------------------------------------------------------------
-pub half_is : (n t : ℕ) → is_size n ≡ true → t ≡ largest_of n → t / 2 + 1 ≡ half_of n
-half_is n t s g = let r = span n s in omega arith
-
 pub unsigned_range : (n u t : ℕ) → t ≡ largest_of n → leb u t ≡ in_range false n (pos u)
 unfolding in_range
 unsigned_range n u t g =
@@ -111,9 +76,6 @@ module _ (z : ℤ) (m : ℕ) (f : SFits w64 z) (e : m ≡ mag (seen z)) where
 
 -- what a value u means, by the half h of its range
 module _ (n u h : ℕ) (s : is_size n ≡ true) (e : h ≡ half_of n) where
-  pub low_fits : u < h → SFits w64 (pos u)
-  low_fits l = let r = span n s in record { sfits = omega arith }
-
   pub meant_low : u < h → to_z w64 u ≡ meant true n u
   unfolding meant
   meant_low l =
@@ -126,13 +88,10 @@ module _ (n u h : ℕ) (s : is_size n ≡ true) (e : h ≡ half_of n) where
     room : t - u < 2 ^ 63
     room = let r = span n s in omega arith
 
-    pub high_fits : SFits w64 (pos (t - u))
-    high_fits = record { sfits = room }
-
     down : negsuc 0 -ℤ to_z w64 (t - u) ≡ negsuc (t - u)
     down = rw (to_z_pos w64 room) (neg_one_less (t - u))
 
-    pub meant_fits : SFits w64 (negsuc 0 -ℤ to_z w64 (t - u))
+    meant_fits : SFits w64 (negsuc 0 -ℤ to_z w64 (t - u))
     meant_fits = rw down (record { sfits = room })
 
     pub meant_high : seen (negsuc 0 -ℤ to_z w64 (t - u)) ≡ meant true n u
@@ -141,19 +100,3 @@ module _ (n u h : ℕ) (s : is_size n ≡ true) (e : h ≡ half_of n) where
         let b : half_of n ≤ u = omega arith in
         let w : t - u ≡ 2 ^ (8 * n) - u - 1 = omega arith in
         to_z-of_z meant_fits ∙ down ∙ rw w (simp (le-leb _ _ b))
-
--- numbers read and written, from the values that stand for them ----------------------------------------------------------
-module _ (big : Bool) (l : List ℕ) where
-  pub unsigned_read : (u : ℕ) → u ≡ little (turned big l) → pos u ≡ number_of false big l
-  unfolding meant
-  unsigned_read u e = ap pos e
-
-  pub signed_read : (u : ℕ) (z : ℤ) → SFits w64 z → z ≡ meant true (length l) u → u ≡ little (turned big l) → seen z ≡ number_of true big l
-  signed_read u z f e g = to_z-of_z f ∙ e ∙ ap (meant true (length l)) g
-
-  pub unsigned_written : (u : ℕ) (x : List ℕ) → x ≡ turned big (little_bytes (length l) u) → x ≡ bytes_of big (length l) (pos u)
-  unfolding unsigned_of
-  unsigned_written u x e = e
-
-  pub signed_written : (u : ℕ) (z : ℤ) (x : List ℕ) → SFits w64 z → u ≡ unsigned_of (length l) (seen z) → x ≡ turned big (little_bytes (length l) u) → x ≡ bytes_of big (length l) z
-  signed_written u z x f g e = e ∙ ap (λ (y : ℕ). turned big (little_bytes (length l) y)) (g ∙ ap (unsigned_of (length l)) (to_z-of_z f))

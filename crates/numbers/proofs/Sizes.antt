@@ -1,15 +1,15 @@
 -- What holds at sizes 1, 2, 4 and 8. Assumes nothing.
-use mathlib.Core.Path.{◌≡◌, refl, ap, ◌∙◌}
+use mathlib.Core.Path.{◌≡◌, ap, ◌∙◌}
 use mathlib.Core.Logic.{◌⊎◌, inl, inr}
 use mathlib.Core.Bool.{Bool, true, ◌||◌, false≢true}
-use Prim.Native.Nat.{ℕ, suc, ◌-◌, ◌*◌, ◌/◌, ◌^◌, ◌≤◌}
+use Prim.Native.Nat.{ℕ, suc, ◌-◌, ◌*◌, ◌^◌, ◌≤◌}
 use native.Mathlib.Nat.{pow-succ'}
 use native.Mathlib.Omega.{arith}
 use borrow.Author.Tests.{eqb-true}
 use lib.Dec.{eqb, lit≤}
 use lib.Pow.{pow_pos, pow_mono}
 use Rattle.bsmp.proofs.Bools.{or_true}
-use Rattle.numbers.specs.Size.{is_size, largest_of, half_of}
+use Rattle.numbers.specs.Size.{is_size, half_of}
 
 -- what holds at these four holds at every size
 one_of : (P : ℕ → Type 0) (n a : ℕ) (b : Bool) → P a → (b ≡ true → P n) → (eqb n a || b) ≡ true → P n
@@ -27,9 +27,6 @@ size_least = at_sizes (λ n. 1 ≤ n) (lit≤ tt) (lit≤ tt) (lit≤ tt) (lit�
 
 pub size_most : (n : ℕ) → is_size n ≡ true → n ≤ 8
 size_most = at_sizes (λ n. n ≤ 8) (lit≤ tt) (lit≤ tt) (lit≤ tt) (lit≤ tt)
-
-pub largest_is : (n : ℕ) → is_size n ≡ true → 18446744073709551615 / 2 ^ (64 - 8 * n) ≡ largest_of n
-largest_is = at_sizes (λ n. 18446744073709551615 / 2 ^ (64 - 8 * n) ≡ largest_of n) refl refl refl refl
 
 -- the range of a size is twice its half, which isn't empty and within that of 8 bytes
 pub record Span (n : ℕ) : Type 0 where
