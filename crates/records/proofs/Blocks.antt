@@ -16,7 +16,7 @@ use Rattle.bsmp.specs.declared.Curve.{Curve}
 use Rattle.bsmp.proofs.Store.{curve_bytes_lem}
 use Rattle.lists.proofs.Sum.{total_append, total_within}
 use Rattle.lists.proofs.Blocks.{block_start}
-use Rattle.records.specs.Lending.{curve_bytes, curve_blocks, start_of}
+use Rattle.records.specs.Lending.{curve_bytes, curve_blocks}
 use Rattle.records.proofs.Sound.{curves_small, blocks_small}
 
 -- a number of each curve, added up: s before curve i, whose record is x; and so before the next
@@ -54,9 +54,6 @@ module _ (cs : List Curve) (n i s : ℕ) (x : Curve) (u : usable_curves cs ≡ t
   pub before_within : s + x.size * x.blocks ≤ curve_bytes cs
   before_within = within bytes_in cs n i s x l h e q
 
-  pub before_mul : Fits w64 (x.size * x.blocks)
-  before_mul = record { fits = omega (arith, before_within, curves_small cs u) }
-
   pub before_add : Fits w64 (s + x.size * x.blocks)
   before_add = record { fits = omega (arith, before_within, curves_small cs u) }
 
@@ -77,9 +74,6 @@ module _ (cs : List Curve) (n i k : ℕ) (x : Curve) (u : usable_curves cs ≡ t
 pub before_start : 0 ≡ sum []
 unfolding sum
 before_start = refl
-
-pub before_end : (cs : List Curve) (n i k s : ℕ) → i ≤ n → n ≤ i → k ≡ curve_blocks (take i cs) → s ≡ curve_bytes (take i cs) → record { blocks = k; bytes = s } ≡ start_of (take n cs)
-before_end cs n i k s a b e q = let o : n ≡ i = omega arith in rw (o, e, q)
 
 -- blocks
 blocks_append : (xs ys : List Curve) → block_sizes (xs ++ ys) ≡ block_sizes xs ++ block_sizes ys

@@ -1,5 +1,5 @@
 -- What a board lends, read as the definition's lists and table: for every number of records, usable or not. Assumes nothing.
-use Rattle.std.specs.Prelude.{cond, List, map, ℕ, ◌+◌, ◌*◌, ◌/◌, ltb, length, get_or}
+use Rattle.std.specs.Prelude.{cond, List, map, ℕ, ◌+◌, ◌*◌, ◌/◌, ltb, length, get_or, slice_set}
 use Rattle.bsmp.specs.Base.{sum, up_from, marks_of}
 use Rattle.bsmp.specs.Board.{Table, is_writable, blank_curve}
 use Rattle.bsmp.specs.Store.{Lent}
@@ -8,7 +8,7 @@ use Rattle.bsmp.specs.declared.Curve.{Curve}
 use Rattle.bsmp.specs.declared.Function.{Function}
 use Rattle.records.specs.declared.Records.{Records}
 use Rattle.records.specs.declared.Groups.{Groups}
-use Rattle.records.specs.declared.NewGroup.{NewGroup}
+use Rattle.records.specs.declared.Board.{Board}
 use Rattle.records.specs.declared.Start.{Start}
 
 -- n things, numbered from 0
@@ -68,15 +68,25 @@ groups_by n gs = record { count = n; sets = gs }
 unfoldable pub groups_of : Groups → List ℕ
 groups_of g = numbered (λ i. get_or g.sets i 0) g.count
 
--- how a group goes into a table of so many: one more, at the first place behind them
-abbrev pub new_group_of : (count members : ℕ) → NewGroup
-new_group_of n m = record { count = n + 1; place = n; set = m }
+-- a table with one group more, at the first place behind the others; and one with none, whose places keep what they held
+abbrev pub with_group : Groups → (members : ℕ) → Groups
+with_group g m = groups_by (g.count + 1) (slice_set g.sets g.count m)
+
+abbrev pub without_groups : Groups → Groups
+without_groups g = groups_by 0 g.sets
 
 abbrev pub table_of : Records → (curves functions : List ℕ) → Table
 table_of r cs fs = record { variables = records_of r; curves = curves_of cs; functions = functions_of fs }
 
 abbrev pub lent : (values blocks lengths sums groups : List ℕ) → Lent
 lent vs bs ns ds gs = record { values = vs; blocks = bs; lengths = ns; sums = ds; groups = gs }
+
+-- the table and the lent parts of a whole board
+abbrev pub table_lent : Board → Table
+table_lent b = table_of b.records.now b.curves.now b.functions.now
+
+abbrev pub board_lent : Board → Lent
+board_lent b = lent b.values.now b.blocks.now b.lengths.now b.sums.now (groups_of b.groups.now)
 
 -- what is lent, with one of its parts as a call leaves it
 abbrev pub lent_values : Lent → List ℕ → Lent

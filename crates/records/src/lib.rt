@@ -4,7 +4,7 @@
 ghost use Rattle.std.specs.Prelude.{◌≡◌, true, ◌≤◌, ◌<◌, length, take, get_or};
 ghost use Rattle.bsmp.specs.Base.{every};
 ghost use Rattle.bsmp.specs.Board.{is_type, blank_curve, blank_function, usable_curves};
-ghost use Rattle.records.specs.Lending.{writable_marks, curves_of, functions_of, new_group_of, start_of};
+ghost use Rattle.records.specs.Lending.{writable_marks, curves_of, functions_of, start_of, with_group, without_groups};
 
 use bsmp::{Curve, CurveNumber, Function, FunctionNumber};
 
@@ -25,12 +25,17 @@ pub struct Groups {
     pub sets: [u64; 5],
 }
 
-// A group that goes into the table: the count with it, and what it writes into which place.
+// All that a board lends, for calls that change none of it.
 #[derive(Clone, Copy)]
-pub struct NewGroup {
-    pub count: u64,
-    pub place: usize,
-    pub set: u64,
+pub struct Board<'a> {
+    pub records: &'a Records,
+    pub curves: &'a [u32],
+    pub functions: &'a [u8],
+    pub groups: &'a Groups,
+    pub values: &'a [u8],
+    pub blocks: &'a [u8],
+    pub lengths: &'a [u16],
+    pub sums: &'a [u8],
 }
 
 // What stands before a curve: in the lengths so many blocks, in the curve store so many bytes.
@@ -41,20 +46,20 @@ pub struct Start {
 }
 
 // The writable variables as marks, by their types, from the last to the first.
+#[tactic(auto, using(crate::proofs::Marking::twice_fits, crate::proofs::Marking::marks_fit))]
 pub fn marks_of(types: &[u8]) -> u64
     requires { (length types.now ≤ 64) × (every is_type types.now ≡ true) }
     ensures { result ≡ writable_marks types.now }
 {
     let mut marks: u64 = 0;
-    let mut i = types.len();
-    while 0 < i {
-        i -= 1;
+    for i in (0..types.len()).rev() {
         marks = 2 * marks + types[i] as u64;
     }
     marks
 }
 
 // How many curve records are lent, a broken one at the end included.
+#[tactic(auto, using(crate::proofs::Lending::curve_count))]
 pub fn curve_count(curves: &[u32]) -> usize
     ensures { result ≡ length (curves_of curves.now) }
 {
@@ -62,12 +67,12 @@ pub fn curve_count(curves: &[u32]) -> usize
 }
 
 // The record of curve c; zeros where there is none, and for a broken one at the end.
+#[tactic(auto, using(crate::proofs::Lending::curve_whole, crate::proofs::Lending::curve_broken))]
 pub fn curve_at(curves: &[u32], c: CurveNumber) -> Curve
     ensures { result ≡ get_or (curves_of curves.now) c.0 blank_curve }
 {
-    let n = c.0;
-    if n < curves.len() / 3 {
-        let at = 3 * n;
+    if c.0 < curves.len() / 3 {
+        let at = 3 * c.0;
         Curve {
             writable: curves[at],
             size: curves[at + 1],
@@ -87,21 +92,19 @@ pub fn curve_start(curves: &[u32], c: CurveNumber) -> Start
     requires { (usable_curves (curves_of curves.now) ≡ true) × (c.0 ≤ length (curves_of curves.now)) }
     ensures { result ≡ start_of (take c.0 (curves_of curves.now)) }
 {
-    let n = c.0;
     let mut blocks: usize = 0;
     let mut bytes: usize = 0;
-    let mut i = 0;
-    while i < n {
+    for i in 0..c.0 {
         let curve = curve_at(curves, CurveNumber(i));
         let count = curve.blocks as usize;
         blocks += count;
         bytes += curve.size as usize * count;
-        i += 1;
     }
     Start { blocks, bytes }
 }
 
 // How many function records are lent, a broken one at the end included.
+#[tactic(auto, using(crate::proofs::Lending::function_count))]
 pub fn function_count(functions: &[u8]) -> usize
     ensures { result ≡ length (functions_of functions.now) }
 {
@@ -109,13 +112,13 @@ pub fn function_count(functions: &[u8]) -> usize
 }
 
 // The record of function f.
+#[tactic(auto, using(crate::proofs::Lending::function_whole, crate::proofs::Lending::function_broken))]
 pub fn function_at(functions: &[u8], f: FunctionNumber) -> Function
     requires { f.0 < length (functions_of functions.now) }
     ensures { result ≡ get_or (functions_of functions.now) f.0 blank_function }
 {
-    let n = f.0;
-    if n < functions.len() / 2 {
-        let at = 2 * n;
+    if f.0 < functions.len() / 2 {
+        let at = 2 * f.0;
         Function {
             input: functions[at],
             output: functions[at + 1],
@@ -128,27 +131,22 @@ pub fn function_at(functions: &[u8], f: FunctionNumber) -> Function
     }
 }
 
-// What becomes of a group table, by value: of its count, and of the one place that changes with it. Whoever has the table behind `&mut`
-// stores that.
 impl Groups {
     pub const NONE: u64 = 0;
 
-    // One group more.
-    pub fn create(count: u64, members: u64) -> NewGroup
-        requires { count < 5 }
-        ensures { result ≡ new_group_of count members }
+    // One group more, at the first place behind the others.
+    pub fn create(&mut self, members: u64)
+        requires { self.old.count < 5 }
+        ensures { self.new ≡ with_group self.old members }
     {
-        NewGroup {
-            count: count + 1,
-            place: count as usize,
-            set: members,
-        }
+        self.sets[self.count as usize] = members;
+        self.count += 1;
     }
 
     // No group; the places keep what they held.
-    pub fn remove() -> u64
-        ensures { result ≡ 0 }
+    pub fn remove(&mut self)
+        ensures { self.new ≡ without_groups self.old }
     {
-        Groups::NONE
+        self.count = Groups::NONE;
     }
 }

@@ -1,9 +1,8 @@
--- `marks_of` meets its contract: one walk over the types. Assumes nothing.
-use Rattle.records.proofs.Marking.{Marking}
+-- The marks so far are of the types from i on. Assumes nothing.
+use mathlib.Core.Path.{◌≡◌}
+use lib.ListN.{drop}
+use Rattle.records.specs.Lending.{writable_marks}
 use Rattle.records.proofs.marks_of.Given as goal
 
 abbrev pub invariant-loop-i : goal.invariant-loop-i
-invariant-loop-i l = Marking l.types l.marks l.i
-
-abbrev pub decreases-loop-i : goal.decreases-loop-i
-decreases-loop-i l = l.i
+invariant-loop-i l = l.marks ≡ writable_marks (drop l.i l.types)
