@@ -1,10 +1,10 @@
 // MD5 by RFC 1321: words, rounds, and a chunk of 64 bytes. The names are the RFC's where it has any.
 #![tactic(auto)]
 
-ghost use Rattle.std.specs.Prelude.{◌≡◌, suc, ◌+◌, ◌*◌, ◌%◌, ◌^◌, ◌<◌, ◌≤◌, length};
+ghost use Rattle.std.specs.Prelude.{◌≡◌, ℕ, suc, ◌+◌, ◌*◌, ◌%◌, ◌<◌, ◌≤◌, List, [], ◌∷◌, length};
 ghost use Rattle.rfc1321.specs.Md5 as rfc;
-ghost use Rattle.rfc1321.specs.Md5.{◌⊞◌, ◌<<<◌, word, table, operation, operations, round1, round2, round3, round4, added, operated};
-ghost use Rattle.rfc1321.specs.Ready.{Ready};
+ghost use Rattle.rfc1321.specs.Md5.{word, operation, operations, added, operated};
+ghost use Rattle.rfc1321.specs.Rounds.{Shift, Listed, first, second, third, fourth};
 
 // The four words that a message is worked into: the RFC's A, B, C and D.
 #[derive(Clone, Copy)]
@@ -27,173 +27,194 @@ const TABLE: [u32; 64] = [
     0x6fa87e4f, 0xfe2ce6e0, 0xa3014314, 0x4e0811a1, 0xf7537e82, 0xbd3af235, 0x2ad7d2bb, 0xeb86d391,
 ];
 
-fn plus(x: u32, y: u32) -> u32
-    ensures { result ≡ x ⊞ y }
-{
-    std::num::wrapping_add_u32(x, y)
+// A round as the RFC has it: its function, and its sixteen operations. The code counts them from 0 to 15 in each round, where the RFC counts from
+// 1 to 64 through all of them, and goes through them in four turns of four.
+trait Round {
+    // F, G, H or I
+    ghost function: { ℕ → ℕ → ℕ → ℕ };
+
+    // "the following 16 operations": k, s and i of each
+    ghost ops: { List (ℕ × ℕ × ℕ) };
+
+    // k of an operation
+    ghost k: { ℕ → ℕ };
+
+    ghost BEFORE: { ℕ };
+
+    ghost SHIFTS: { List ℕ };
+
+    // How many operations come before the round.
+    const BEFORE: usize;
+
+    // The shifts of a turn.
+    const SHIFTS: [u32; 4];
+
+    fn mix(x: u32, y: u32, z: u32) -> u32
+        ensures { result ≡ function x y z };
+
+    // Which word of the chunk an operation takes.
+    fn place(i: usize) -> usize
+        requires { i < 16 }
+        ensures { (result ≡ k i) × (result < 16) };
+
+    ghost listed: { Listed k BEFORE SHIFTS ops };
 }
 
-fn rotate_left(x: u32, s: u32) -> u32
-    requires { (0 < s) × (s < 32) }
-    ensures { result ≡ (x <<< s) }
-{
-    (x << s) | (x >> (32 - s))
+struct First;
+
+impl Round for First {
+    ghost function = { rfc.F };
+
+    ghost ops = { rfc.round1 };
+
+    ghost k = { λ i. i };
+
+    ghost BEFORE = { 0 };
+
+    ghost SHIFTS = { 7 ∷ 12 ∷ 17 ∷ 22 ∷ [] };
+
+    const BEFORE: usize = 0;
+
+    const SHIFTS: [u32; 4] = [7, 12, 17, 22];
+
+    #[tactic(auto, unfolding(crate::specs::Md5::F, crate::specs::Md5::not))]
+    fn mix(x: u32, y: u32, z: u32) -> u32 {
+        (x & y) | (!x & z)
+    }
+
+    fn place(i: usize) -> usize {
+        i
+    }
+
+    ghost listed = { first };
 }
 
-fn mix_f(x: u32, y: u32, z: u32) -> u32
-    ensures { result ≡ rfc.F x y z }
-{
-    (x & y) | (!x & z)
+struct Second;
+
+impl Round for Second {
+    ghost function = { rfc.G };
+
+    ghost ops = { rfc.round2 };
+
+    ghost k = { λ i. (1 + 5 * i) % 16 };
+
+    ghost BEFORE = { 16 };
+
+    ghost SHIFTS = { 5 ∷ 9 ∷ 14 ∷ 20 ∷ [] };
+
+    const BEFORE: usize = 16;
+
+    const SHIFTS: [u32; 4] = [5, 9, 14, 20];
+
+    #[tactic(auto, unfolding(crate::specs::Md5::G, crate::specs::Md5::not))]
+    fn mix(x: u32, y: u32, z: u32) -> u32 {
+        (x & z) | (y & !z)
+    }
+
+    fn place(i: usize) -> usize {
+        (1 + 5 * i) % 16
+    }
+
+    ghost listed = { second };
 }
 
-fn mix_g(x: u32, y: u32, z: u32) -> u32
-    ensures { result ≡ rfc.G x y z }
-{
-    (x & z) | (y & !z)
+struct Third;
+
+impl Round for Third {
+    ghost function = { rfc.H };
+
+    ghost ops = { rfc.round3 };
+
+    ghost k = { λ i. (5 + 3 * i) % 16 };
+
+    ghost BEFORE = { 32 };
+
+    ghost SHIFTS = { 4 ∷ 11 ∷ 16 ∷ 23 ∷ [] };
+
+    const BEFORE: usize = 32;
+
+    const SHIFTS: [u32; 4] = [4, 11, 16, 23];
+
+    #[tactic(auto, unfolding(crate::specs::Md5::H))]
+    fn mix(x: u32, y: u32, z: u32) -> u32 {
+        x ^ y ^ z
+    }
+
+    fn place(i: usize) -> usize {
+        (5 + 3 * i) % 16
+    }
+
+    ghost listed = { third };
 }
 
-fn mix_h(x: u32, y: u32, z: u32) -> u32
-    ensures { result ≡ rfc.H x y z }
-{
-    x ^ y ^ z
+struct Fourth;
+
+impl Round for Fourth {
+    ghost function = { rfc.I };
+
+    ghost ops = { rfc.round4 };
+
+    ghost k = { λ i. 7 * i % 16 };
+
+    ghost BEFORE = { 48 };
+
+    ghost SHIFTS = { 6 ∷ 10 ∷ 15 ∷ 21 ∷ [] };
+
+    const BEFORE: usize = 48;
+
+    const SHIFTS: [u32; 4] = [6, 10, 15, 21];
+
+    #[tactic(auto, unfolding(crate::specs::Md5::I, crate::specs::Md5::not))]
+    fn mix(x: u32, y: u32, z: u32) -> u32 {
+        y ^ (x | !z)
+    }
+
+    fn place(i: usize) -> usize {
+        7 * i % 16
+    }
+
+    ghost listed = { fourth };
 }
 
-fn mix_i(x: u32, y: u32, z: u32) -> u32
-    ensures { result ≡ rfc.I x y z }
-{
-    y ^ (x | !z)
-}
-
-// Four bytes as a word, low-order byte first.
-fn word_of(a: u8, b: u8, c: u8, d: u8) -> u32
-    ensures { result ≡ a + 2 ^ 8 * b + 2 ^ 16 * c + 2 ^ 24 * d }
-{
-    a as u32 + 0x100 * (b as u32) + 0x1_0000 * (c as u32) + 0x100_0000 * (d as u32)
-}
-
-// Word k of x.
+// Word k of x, low-order byte first.
+#[tactic(auto, unfolding(crate::specs::Md5::word))]
 fn word(x: &[u8], k: usize) -> u32
     requires { 4 * k + 4 ≤ length x.now }
     ensures { result ≡ word x.now k }
 {
-    word_of(x[4 * k], x[4 * k + 1], x[4 * k + 2], x[4 * k + 3])
+    u32::from_le_bytes([x[4 * k], x[4 * k + 1], x[4 * k + 2], x[4 * k + 3]])
 }
 
-// An operation, given its function's word, X[k] and T[i].
-fn step(q: State, mixed: u32, x: u32, t: u32, s: u32) -> State
-    requires { (0 < s) × (s < 32) }
-    ensures { result ≡ record { a = q.d; b = q.b ⊞ ((q.a ⊞ mixed ⊞ x ⊞ t) <<< s); c = q.b; d = q.c } }
+// Operation i of a round.
+fn step<R: Round>(q: State, x: &[u8], i: usize, s: u32) -> State
+    requires { (64 ≤ length x.now) × (i < 16) × Shift s }
+    ensures { result ≡ operation R.function x.now (R.k i, s, suc (R.BEFORE + i)) q }
 {
+    let sum = q
+        .a
+        .wrapping_add(R::mix(q.b, q.c, q.d))
+        .wrapping_add(word(x, R::place(i)))
+        .wrapping_add(TABLE[R::BEFORE + i]);
     State {
         a: q.d,
-        b: plus(q.b, rotate_left(plus(plus(plus(q.a, mixed), x), t), s)),
+        b: q.b.wrapping_add(sum.rotate_left(s)),
         c: q.b,
         d: q.c,
     }
 }
 
-// The rounds: of each an operation, and the sixteen. Here i goes from 0 to 15 in each round, where the RFC's goes from 1 to 64 through all of
-// them. Four operations are written out in a turn, so that their shifts are constants.
-fn step_one(q: State, x: &[u8], t: &[u32; 64], i: usize, s: u32) -> State
-    requires { Ready x.now t.now i s }
-    ensures { result ≡ operation rfc.F x.now (i, s, suc i) q }
-{
-    step(q, mix_f(q.b, q.c, q.d), word(x, i), t[i], s)
-}
-
-fn round_one(start: State, x: &[u8], t: &[u32; 64]) -> State
-    requires { (64 ≤ length x.now) × (t.now ≡ table) }
-    ensures { result ≡ operations rfc.F x.now round1 start }
+// A round on the first 64 bytes of x. Four operations are written out in a turn, so that their shifts are constants of the compiled code.
+fn sixteen<R: Round>(start: State, x: &[u8]) -> State
+    requires { 64 ≤ length x.now }
+    ensures { result ≡ operations R.function x.now R.ops start }
 {
     let mut q = start;
-    let mut i = 0;
-    while i < 16 {
-        q = step_one(q, x, t, i, 7);
-        q = step_one(q, x, t, i + 1, 12);
-        q = step_one(q, x, t, i + 2, 17);
-        q = step_one(q, x, t, i + 3, 22);
-        i += 4;
-    }
-    q
-}
-
-fn step_two(q: State, x: &[u8], t: &[u32; 64], i: usize, s: u32) -> State
-    requires { Ready x.now t.now i s }
-    ensures { result ≡ operation rfc.G x.now ((1 + 5 * i) % 16, s, suc (16 + i)) q }
-{
-    step(
-        q,
-        mix_g(q.b, q.c, q.d),
-        word(x, (1 + 5 * i) % 16),
-        t[16 + i],
-        s,
-    )
-}
-
-fn round_two(start: State, x: &[u8], t: &[u32; 64]) -> State
-    requires { (64 ≤ length x.now) × (t.now ≡ table) }
-    ensures { result ≡ operations rfc.G x.now round2 start }
-{
-    let mut q = start;
-    let mut i = 0;
-    while i < 16 {
-        q = step_two(q, x, t, i, 5);
-        q = step_two(q, x, t, i + 1, 9);
-        q = step_two(q, x, t, i + 2, 14);
-        q = step_two(q, x, t, i + 3, 20);
-        i += 4;
-    }
-    q
-}
-
-fn step_three(q: State, x: &[u8], t: &[u32; 64], i: usize, s: u32) -> State
-    requires { Ready x.now t.now i s }
-    ensures { result ≡ operation rfc.H x.now ((5 + 3 * i) % 16, s, suc (32 + i)) q }
-{
-    step(
-        q,
-        mix_h(q.b, q.c, q.d),
-        word(x, (5 + 3 * i) % 16),
-        t[32 + i],
-        s,
-    )
-}
-
-fn round_three(start: State, x: &[u8], t: &[u32; 64]) -> State
-    requires { (64 ≤ length x.now) × (t.now ≡ table) }
-    ensures { result ≡ operations rfc.H x.now round3 start }
-{
-    let mut q = start;
-    let mut i = 0;
-    while i < 16 {
-        q = step_three(q, x, t, i, 4);
-        q = step_three(q, x, t, i + 1, 11);
-        q = step_three(q, x, t, i + 2, 16);
-        q = step_three(q, x, t, i + 3, 23);
-        i += 4;
-    }
-    q
-}
-
-fn step_four(q: State, x: &[u8], t: &[u32; 64], i: usize, s: u32) -> State
-    requires { Ready x.now t.now i s }
-    ensures { result ≡ operation rfc.I x.now (7 * i % 16, s, suc (48 + i)) q }
-{
-    step(q, mix_i(q.b, q.c, q.d), word(x, 7 * i % 16), t[48 + i], s)
-}
-
-fn round_four(start: State, x: &[u8], t: &[u32; 64]) -> State
-    requires { (64 ≤ length x.now) × (t.now ≡ table) }
-    ensures { result ≡ operations rfc.I x.now round4 start }
-{
-    let mut q = start;
-    let mut i = 0;
-    while i < 16 {
-        q = step_four(q, x, t, i, 6);
-        q = step_four(q, x, t, i + 1, 10);
-        q = step_four(q, x, t, i + 2, 15);
-        q = step_four(q, x, t, i + 3, 21);
-        i += 4;
+    for turn in 0..4 {
+        let i = 4 * turn;
+        q = step::<R>(q, x, i, R::SHIFTS[0]);
+        q = step::<R>(q, x, i + 1, R::SHIFTS[1]);
+        q = step::<R>(q, x, i + 2, R::SHIFTS[2]);
+        q = step::<R>(q, x, i + 3, R::SHIFTS[3]);
     }
     q
 }
@@ -202,21 +223,21 @@ fn added(p: State, q: State) -> State
     ensures { result ≡ added p q }
 {
     State {
-        a: plus(q.a, p.a),
-        b: plus(q.b, p.b),
-        c: plus(q.c, p.c),
-        d: plus(q.d, p.d),
+        a: q.a.wrapping_add(p.a),
+        b: q.b.wrapping_add(p.b),
+        c: q.c.wrapping_add(p.c),
+        d: q.d.wrapping_add(p.d),
     }
 }
 
-// The first 64 bytes of x. The table is bound here and lent to the rounds, so that its elements become constants of the compiled code.
+// The first 64 bytes of x.
+#[tactic(auto, unfolding(crate::specs::Md5::operated))]
 pub fn chunk(q: State, x: &[u8]) -> State
     requires { 64 ≤ length x.now }
     ensures { result ≡ operated q x.now }
 {
-    let t = TABLE;
-    let one = round_one(q, x, &t);
-    let two = round_two(one, x, &t);
-    let three = round_three(two, x, &t);
-    added(q, round_four(three, x, &t))
+    let one = sixteen::<First>(q, x);
+    let two = sixteen::<Second>(one, x);
+    let three = sixteen::<Third>(two, x);
+    added(q, sixteen::<Fourth>(three, x))
 }
