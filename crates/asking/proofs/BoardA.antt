@@ -5,6 +5,7 @@ use mathlib.Core.Bool.{true, false}
 use mathlib.Core.List.{List, [], ◌∷◌, map}
 use Prim.Native.Nat.{ℕ}
 use lib.ListN.{replicate}
+use Rattle.std.specs.Prelude.{Ok}
 use Rattle.bsmp.specs.Board.{variable, group, curve, function, State, with_groups}
 use Rattle.bsmp.specs.Packet.{frame, gave, failed}
 use Rattle.bsmp.specs.Examples.{hex, table_a, place_a, state_a}
@@ -91,8 +92,8 @@ heard = refl
 
 pub told :
     map told_of replies
-    ≡ T.Values 4 ∷ T.Version ∷ T.Variables 3 ∷ T.Groups 3 ∷ T.Members 2 ∷ T.Curves 1 ∷ T.Functions 1 ∷ T.Error ReadOnly ∷ T.Error Busy ∷ T.Done
-    ∷ T.Block 4 ∷ T.Sum ∷ T.Values 3 ∷ T.Output 2 ∷ T.Failed 7 ∷ []
+    ≡ map Ok (T.Values 4 ∷ T.Version ∷ T.Variables 3 ∷ T.Groups 3 ∷ T.Members 2 ∷ T.Curves 1 ∷ T.Functions 1 ∷ T.Error ReadOnly ∷ T.Error Busy ∷ T.Done
+    ∷ T.Block 4 ∷ T.Sum ∷ T.Values 3 ∷ T.Output 2 ∷ T.Failed 7 ∷ [])
 unfolding computes
 told = refl
 

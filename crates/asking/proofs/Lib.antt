@@ -1,4 +1,3 @@
-pub mod Address
 pub mod Lists
 pub mod Sorted
 pub mod Written

@@ -1,5 +1,5 @@
 -- A reply, read as what it says: the answer that 01 gives to a request, what of it fits, and what it tells (02, 2026-04). Assumes nothing.
-use Rattle.std.specs.Prelude.{◌≡◌, Bool, true, false, cond, not, ◌&&◌, ◌||◌, List, [], ◌∷◌, map, ℕ, ◌-◌, ◌*◌, ◌%◌, leb, ltb, eqb, length, drop}
+use Rattle.std.specs.Prelude.{◌≡◌, Bool, true, false, cond, not, ◌&&◌, ◌||◌, Result, Ok, Err, List, [], ◌∷◌, map, ℕ, ◌-◌, ◌*◌, ◌%◌, leb, ltb, eqb, length, drop}
 use Rattle.bsmp.specs.Base.{sum, up_from, every, cut, same, ascending, within, byte_at, word_at, Test, test, first}
 use Rattle.bsmp.specs.Codes.{coded}
 use Rattle.bsmp.specs.Board.{variable, group, Layout, State, value_of, content_of, sum_of, size_of, members, curve_of, block_place, function_of, usable_curves, usable_functions}
@@ -216,18 +216,18 @@ Understood x to r d h (run f i due) = (r ≡ RunFunction f) × ((i ≡ d) × (du
 Understood x to r d h (Ending.refused n) = ⊥
 
 -- how the code says it: the bytes stand in the reply, a value's, a sum's and an output's from place 4 on, a block's from place 7 on
-abbrev pub told_of : Hearing → Told
-told_of (hears (is_error e)) = T.Error e
-told_of (hears is_done) = T.Done
-told_of (hears (is_version p)) = T.Version
-told_of (hears (is_variables vs)) = T.Variables (length vs)
-told_of (hears (is_groups gs)) = T.Groups (length gs)
-told_of (hears (is_members g is)) = T.Members (length is)
-told_of (hears (is_curves cs)) = T.Curves (length cs)
-told_of (hears (is_functions fs)) = T.Functions (length fs)
-told_of (hears (is_values vs)) = T.Values (sum (map (λ v. length v.bytes) vs))
-told_of (hears (is_block c k d)) = T.Block (length d)
-told_of (hears (is_sum c d)) = T.Sum
-told_of (hears (is_result f (gave out))) = T.Output (length out)
-told_of (hears (is_result f (failed e))) = T.Failed e
-told_of (Hearing.refused n) = T.Refused n
+abbrev pub told_of : Hearing → Result Told Refusal
+told_of (hears (is_error e)) = Ok (T.Error e)
+told_of (hears is_done) = Ok T.Done
+told_of (hears (is_version p)) = Ok T.Version
+told_of (hears (is_variables vs)) = Ok (T.Variables (length vs))
+told_of (hears (is_groups gs)) = Ok (T.Groups (length gs))
+told_of (hears (is_members g is)) = Ok (T.Members (length is))
+told_of (hears (is_curves cs)) = Ok (T.Curves (length cs))
+told_of (hears (is_functions fs)) = Ok (T.Functions (length fs))
+told_of (hears (is_values vs)) = Ok (T.Values (sum (map (λ v. length v.bytes) vs)))
+told_of (hears (is_block c k d)) = Ok (T.Block (length d))
+told_of (hears (is_sum c d)) = Ok T.Sum
+told_of (hears (is_result f (gave out))) = Ok (T.Output (length out))
+told_of (hears (is_result f (failed e))) = Ok (T.Failed e)
+told_of (Hearing.refused n) = Err n

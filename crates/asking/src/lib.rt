@@ -2,9 +2,9 @@
 #![tactic(auto)]
 
 ghost use Rattle.std.specs.Prelude.{◌≡◌};
-ghost use Rattle.asking.specs.Request.{mask_code, is_address};
+ghost use Rattle.asking.specs.Request.{mask_code, mask_of, is_address};
 
-use bsmp::{CurveNumber, FunctionNumber, GroupNumber, Refusal, VariableNumber, WireError};
+use bsmp::{CurveNumber, FunctionNumber, GroupNumber, Operation, VariableNumber, WireError};
 
 // The six operations of a mask, each a request of its own, though two pairs of them do the same.
 #[derive(Clone, Copy)]
@@ -17,17 +17,35 @@ pub enum Masking {
     And,
 }
 
+impl From<Masking> for u8 {
+    ghost from_gives = { λ m code. code ≡ mask_code m };
+
+    fn from(masking: Masking) -> u8 {
+        match masking {
+            Masking::Set => Operation::SET,
+            Masking::Or => Operation::OR,
+            Masking::Clear => Operation::CLEAR,
+            Masking::Toggle => Operation::TOGGLE,
+            Masking::Xor => Operation::XOR,
+            Masking::And => Operation::AND,
+        }
+    }
+}
+
 impl Masking {
-    pub fn code(self) -> u8
-        ensures { result ≡ mask_code self }
+    // The operation of this code, if it is one of the six. An Option and no TryFrom: of another code there is no more to say.
+    #[tactic(auto, unfolding(crate::specs::Request::mask_of))]
+    pub fn of(code: u8) -> Option<Masking>
+        ensures { result ≡ mask_of code }
     {
-        match self {
-            Masking::Set => 0x53,
-            Masking::Or => 0x4F,
-            Masking::Clear => 0x43,
-            Masking::Toggle => 0x54,
-            Masking::Xor => 0x58,
-            Masking::And => 0x41,
+        match code {
+            Operation::SET => Some(Masking::Set),
+            Operation::OR => Some(Masking::Or),
+            Operation::CLEAR => Some(Masking::Clear),
+            Operation::TOGGLE => Some(Masking::Toggle),
+            Operation::XOR => Some(Masking::Xor),
+            Operation::AND => Some(Masking::And),
+            _ => None,
         }
     }
 }
@@ -68,28 +86,16 @@ pub enum Request {
 }
 
 // Whether a request may go there: to a node, or to many.
+#[tactic(auto, unfolding(crate::specs::Request::is_address))]
 pub fn is_address(destination: u8) -> bool
     ensures { result ≡ is_address destination }
 {
-    if destination < 1 {
-        return false;
-    }
-    if destination <= 31 {
-        return true;
-    }
-    248 <= destination
-}
-
-// How writing a request ends: so many bytes stand at the start of the buffer, or a local refusal.
-#[derive(Clone, Copy)]
-pub enum Asked {
-    Written(usize),
-    Refused(Refusal),
+    matches!(destination, 1..=31 | 248..)
 }
 
 // What a reply says, by places in it: an error; that it is done; 02 14 00; so many records of a list, members of a group, or bytes of values
 // or of a function's output, from place 4 on; so many bytes of a block, from place 7 on; the 16 bytes of a sum, from place 4 on; a function's
-// error byte. Or a local refusal.
+// error byte.
 #[derive(Clone, Copy)]
 pub enum Told {
     Error(WireError),
@@ -105,5 +111,4 @@ pub enum Told {
     Sum,
     Output(usize),
     Failed(u8),
-    Refused(Refusal),
 }
