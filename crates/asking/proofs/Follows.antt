@@ -1,5 +1,6 @@
 -- The learned table follows the node: after any written request the node's table is the learned one followed, and whoever hears the answer
 -- has it. Assumes nothing.
+use Rattle.std.specs.Prelude.{Ok, Err}
 use mathlib.Core.Path.{◌≡◌, refl, sym, ap, ap₂, ◌∙◌}
 use mathlib.Core.Bool.{Bool, true, false, cond, not}
 use mathlib.Core.List.{List, [], ◌∷◌, ◌++◌, map}
@@ -10,15 +11,13 @@ use lib.ListN.{length, take, drop, length-map, drop_of_length-le}
 use lib.Seq.{take_all, take-length, split_at}
 use borrow.Author.Tests.{le-leb, lt-ltb, leb-true, leb-false, ltb-false}
 use Rattle.bsmp.specs.Base.{every, some}
-use Rattle.bsmp.specs.Codes.{command_of}
+use Rattle.bsmp.specs.Codes.{command_of, Check}
 use Rattle.bsmp.specs.Board.{variable, Table, Layout, layout, State, members, group_count, set_of, usable}
 use Rattle.bsmp.specs.Message.{no_variable, tests_of, line, judge, after, state_after, carried, handled}
 use Rattle.bsmp.specs.Packet.{Place, Ending, reply, silence, run, served, packet, Ran, failed}
 use Rattle.bsmp.specs.declared.VariableNumber.{VariableNumber}
 use Rattle.bsmp.specs.declared.GroupNumber.{GroupNumber}
 use Rattle.bsmp.specs.declared.FunctionNumber.{FunctionNumber}
-use Rattle.bsmp.specs.declared.Check.{Check}
-use Rattle.bsmp.specs.declared.Check.TheVariants.{Pass, Fail}
 use Rattle.bsmp.proofs.Bools.{or_false}
 use Rattle.bsmp.proofs.Lists.{length_up_from}
 use Rattle.bsmp.proofs.Chain.{clear, clear_at, broken_at}
@@ -87,8 +86,8 @@ can_be t s h g a b =
 
 -- the node's table after a written request --------------------------------------------------------------------------------------------
 abbrev pub followed_if : Check → Learned → Request → (d : List ℕ) → Learned
-followed_if (Fail e) x r d = x
-followed_if Pass x r d = followed x r d
+followed_if (Err e) x r d = x
+followed_if (Ok _) x r d = followed x r d
 
 module _ (t : Table) (s : State) (busy : ℕ) (h : usable t s ≡ true) where
   abbrev X : Learned
@@ -199,8 +198,8 @@ module _ (t : Table) (s : State) (h : usable t s ≡ true) where
   -- a function that is run changes no table
   run_same : (v : Check) (r : Request) (f : FunctionNumber) (d : List ℕ) → r ≡ RunFunction f → X' ≡ followed_if v X' r d
   unfolding followed fields_of
-  run_same (Fail e) r f d q = refl
-  run_same Pass r f d q = rw q
+  run_same (Err e) r f d q = refl
+  run_same (Ok _) r f d q = rw q
 
   heard_so : (to : ℕ) (r : Request) (d : List ℕ) (v : Check) (x : Heard) (e : Ending) → Understood X' to r d x e → taught X' r d x ≡ followed_if v X' r d
       → learning X' r d (heard_ending X' to r e) ≡ followed_if v X' r d

@@ -9,13 +9,12 @@ use lib.ListN.{length, take, get_or, length-map, drop_of_length-le}
 use lib.Seq.{take-nil, take-take, take-suc, take-length, length-take-le}
 use borrow.Author.Tests.{le-leb, lt-ltb}
 use Rattle.bsmp.specs.Base.{up_from, has, marks_of, first}
-use Rattle.bsmp.specs.Codes.{command_of}
+use Rattle.bsmp.specs.Codes.{command_of, Pass}
 use Rattle.bsmp.specs.Board.{variable, group, Table, Layout, layout, State, size_of, marked, is_writable, members, group_count, set_of}
 use Rattle.bsmp.specs.Message.{check, line, judge, handled}
 use Rattle.bsmp.specs.Packet.{Place, Ending, reply, silence, run, ends, served, failed}
 use Rattle.bsmp.specs.declared.VariableNumber.{VariableNumber}
 use Rattle.bsmp.specs.declared.FunctionNumber.{FunctionNumber}
-use Rattle.bsmp.specs.declared.Check.TheVariants.{Pass}
 use Rattle.bsmp.proofs.Lists.{map_map, map_numbers}
 use Rattle.bsmp.proofs.Marks.{marks_below}
 use Rattle.bsmp.proofs.Room.{limits}

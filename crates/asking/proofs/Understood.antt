@@ -9,13 +9,12 @@ use lib.Dec.{eqb, lit≤}
 use lib.ListN.{length}
 use borrow.Author.Tests.{eq-eqb, eqb-true, lt-ltb, ltb-true, not-false}
 use Rattle.bsmp.specs.Base.{word}
-use Rattle.bsmp.specs.Codes.{command_of, error_code}
+use Rattle.bsmp.specs.Codes.{command_of, error_code, Check}
 use Rattle.bsmp.specs.Board.{Table, Layout, layout, State, curve_of, block_place, function_of, usable, faults}
 use Rattle.bsmp.specs.Message.{no_variable, show, Line, tests_of, line, judge, after, Said, replies, runs, spoken, said, state_after, carried, handled}
 use Rattle.bsmp.specs.Packet.{Place, refuse, packed, frame, ends, served, packet, Ran, gave, failed, bad_output, ran_says, result_tests, function_result}
 use Rattle.bsmp.specs.declared.FunctionNumber.{FunctionNumber}
 use Rattle.bsmp.specs.declared.WireError.{WireError}
-use Rattle.bsmp.specs.declared.Check.{Check}
 use Rattle.bsmp.proofs.Bools.{or_false}
 use Rattle.bsmp.proofs.Chain.{clear, clear_at, broken_at, first_clear}
 use Rattle.bsmp.proofs.Usable.{usable_clear}

@@ -1,7 +1,7 @@
 -- A reply, read as what it says: the answer that 01 gives to a request, what of it fits, and what it tells (02, 2026-04). Assumes nothing.
 use Rattle.std.specs.Prelude.{◌≡◌, Bool, true, false, cond, not, ◌&&◌, ◌||◌, Result, Ok, Err, List, [], ◌∷◌, map, ℕ, ◌-◌, ◌*◌, ◌%◌, leb, ltb, eqb, length, drop}
 use Rattle.bsmp.specs.Base.{sum, up_from, every, cut, same, ascending, within, byte_at, word_at, Test, test, first}
-use Rattle.bsmp.specs.Codes.{coded}
+use Rattle.bsmp.specs.Codes.{coded, Check}
 use Rattle.bsmp.specs.Board.{variable, group, Layout, State, value_of, content_of, sum_of, size_of, members, curve_of, block_place, function_of, usable_curves, usable_functions}
 use Rattle.bsmp.specs.Message.{no_variable, no_group, no_curve, no_function}
 use Rattle.bsmp.specs.Packet.{message, Ran, gave, failed, Ending, reply, silence, run}
@@ -13,8 +13,6 @@ use Rattle.bsmp.specs.declared.Curve.{Curve}
 use Rattle.bsmp.specs.declared.Function.{Function}
 use Rattle.bsmp.specs.declared.WireError.{WireError}
 use Rattle.bsmp.specs.declared.WireError.TheVariants.{Malformed, Unsupported, BadId, BadValue, BadSize, ReadOnly, Full, Busy}
-use Rattle.bsmp.specs.declared.Check.{Check}
-use Rattle.bsmp.specs.declared.Check.TheVariants.{Pass, Fail}
 use Rattle.bsmp.specs.declared.Refusal.{Refusal}
 use Rattle.bsmp.specs.declared.Refusal.TheVariants.{BoardUnusable, BadAddress, PacketLength, Checksum, ReplyUnfit}
 use Rattle.asking.specs.Request.{is_address, is_multicast}
@@ -205,8 +203,8 @@ hearing x to r q =
 
 -- what is expected of an answer: the error that the node names, or what it holds
 abbrev pub expected : Check → Heard → Heard
-expected (Fail e) h = is_error e
-expected Pass h = h
+expected (Err e) h = is_error e
+expected (Ok _) h = h
 
 -- how a packet's ending is understood; a function is run first, and its result is heard later
 abbrev pub Understood : Learned → (destination : ℕ) → Request → (d : List ℕ) → Heard → Ending → Type 0
