@@ -4,9 +4,9 @@
 ghost use Rattle.std.specs.Prelude.{◌≡◌, true, ◌≤◌, ◌<◌, length, take, get_or};
 ghost use Rattle.bsmp.specs.Base.{every};
 ghost use Rattle.bsmp.specs.Board.{is_type, blank_curve, blank_function, usable_curves};
-ghost use Rattle.records.specs.Lending.{writable_marks, curves_of, functions_of, start_of, with_group, without_groups};
+ghost use Rattle.records.specs.Lending.{record_at, writable_marks, curves_of, functions_of, start_of, with_group, without_groups};
 
-use bsmp::{Curve, CurveNumber, Function, FunctionNumber};
+use bsmp::{Curve, CurveNumber, Function, FunctionNumber, Variable};
 
 // The variable records by columns; of the places from `count` on, nothing counts.
 #[derive(Clone, Copy)]
@@ -15,6 +15,20 @@ pub struct Records {
     pub writable: [u8; 64],
     pub sizes: [u8; 64],
     pub kinds: [u8; 64],
+}
+
+impl Records {
+    // The record at place i.
+    pub fn at(&self, i: usize) -> Variable
+        requires { i < 64 }
+        ensures { result ≡ record_at self.now i }
+    {
+        Variable {
+            writable: self.writable[i],
+            size: self.sizes[i],
+            kind: self.kinds[i],
+        }
+    }
 }
 
 // The made groups as sets; of the places from `count` on, nothing counts.

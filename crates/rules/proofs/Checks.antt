@@ -1,6 +1,6 @@
 -- The rules of refusal 1 as the code meets them, one after another. Assumes nothing.
 use mathlib.Core.Path.{◌≡◌, refl, sym, ◌∙◌}
-use mathlib.Core.Bool.{Bool, true, false, not, ◌&&◌, ◌||◌, and-false, and_assoc, false≢true}
+use mathlib.Core.Bool.{Bool, true, false, not, ◌&&◌, ◌||◌, and-false, and-true as and-on, and_assoc, false≢true}
 use mathlib.Core.List.{List, [], ◌∷◌}
 use Prim.Native.Nat.{ℕ, zero, suc, ◌+◌, ◌-◌, ◌*◌, ◌/◌, ◌^◌, ◌≤◌, ◌<◌}
 use native.Mathlib.Omega.{arith}
@@ -18,7 +18,8 @@ use Rattle.bsmp.specs.declared.Variable.{Variable}
 use Rattle.bsmp.specs.declared.Curve.{Curve}
 use Rattle.bsmp.proofs.Bools.{and_true}
 use Rattle.records.proofs.Bounds.{curve_rules_lem, usable_group}
-use Rattle.rules.specs.Totals.{total_of, variables_total, curve_total_of}
+use Rattle.rules.specs.Totals.{variables_total}
+use Rattle.std.specs.Bool.{then_some}
 use Rattle.records.specs.Lending.{curve_bytes}
 
 -- what the code tests of a size, computed over all bytes
@@ -126,19 +127,6 @@ module _ (c : Curve) (b : Bool) (e : b ≡ usable_curve c) (h : not b ≡ false)
   pub curve_sum_small : (s i : ℕ) → s ≤ 268435456 * i → s + c.size * c.blocks ≤ 268435456 * (i + 1)
   curve_sum_small s i k = omega (arith, curve_small)
 
--- what the checks answer of what is not usable
-pub refused_total : (u : Bool) (n : ℕ) → u ≡ false → record { usable = false; bytes = 0 } ≡ total_of u n
-unfolding total_of
-refused_total u n h = rw h
-
-pub taken_total : (u : Bool) (n m : ℕ) → u ≡ true → n ≡ m → record { usable = true; bytes = n } ≡ total_of u m
-unfolding total_of
-taken_total u n m h e = rw (h, e)
-
-pub refused_curves : (u : Bool) (cs : List Curve) → u ≡ false → record { usable = false; bytes = 0; blocks = 0; size = 0 } ≡ curve_total_of u cs
-unfolding curve_total_of
-refused_curves u cs h = rw h
-
 -- variables
 module _ (vs : List Variable) where
   pub variables_few : (k : ℕ) → k ≡ length vs → k < 1 → usable_variables vs ≡ false
@@ -161,9 +149,10 @@ module _ (vs : List Variable) where
   unfolding usable_variables
   variables_pass k n q a b h e l = rw (← q, le-leb 1 k a, le-leb k 64 b, h, ← e, le-leb n 4096 l)
 
-  pub variables_taken : (k n : ℕ) → k ≡ length vs → 1 ≤ k → k ≤ 64 → every usable_variable vs ≡ true → n ≡ sum (sizes_of vs) → n ≤ 4096
-      → record { usable = true; bytes = n } ≡ variables_total vs
-  variables_taken k n q a b h e l = taken_total (usable_variables vs) n (sum (sizes_of vs)) (variables_pass k n q a b h e l) e
+  -- the last of the rules decides
+  pub variables_total_lem : (k n : ℕ) → k ≡ length vs → 1 ≤ k → k ≤ 64 → every usable_variable vs ≡ true → n ≡ sum (sizes_of vs) → then_some (leb n 4096) n ≡ variables_total vs
+  unfolding usable_variables
+  variables_total_lem k n q a b h e = rw (← q, le-leb 1 k a, le-leb k 64 b, h, ← e, and-on (leb n 4096))
 
 -- curves
 module _ (cs : List Curve) where
@@ -179,9 +168,9 @@ module _ (cs : List Curve) where
   unfolding usable_curves
   curves_large n e h = all_off (curve_rules cs) 2 (rw (← e) (lt-leb n 65536 h))
 
-  pub curves_pass : (k n : ℕ) → k ≡ length cs → k ≤ 8 → every usable_curve cs ≡ true → n ≡ curve_bytes cs → n ≤ 65536 → usable_curves cs ≡ true
+  pub curves_last : (k n : ℕ) → k ≡ length cs → k ≤ 8 → every usable_curve cs ≡ true → n ≡ curve_bytes cs → usable_curves cs ≡ leb n 65536
   unfolding usable_curves
-  curves_pass k n q l h e b = rw (← q, le-leb k 8 l, h, ← e, le-leb n 65536 b)
+  curves_last k n q l h e = rw (← q, le-leb k 8 l, h, ← e) (and-on (leb n 65536))
 
 -- functions and groups: at most m of them, and each passes the test f
 module _ {A : Type 0} (f : A → Bool) (xs : List A) (m : ℕ) where
@@ -198,16 +187,13 @@ pub ruleset counted = (too_many, one_broken, each_passes)
 
 -- a set's members are declared where nothing is left of it past the last variable
 module _ (m n : ℕ) where
-  pub group_empty : m < 1 → false ≡ usable_group n m
-  group_empty h = rw (le-ltb 0 m (omega arith))
-
-  pub group_any : 1 ≤ m → 64 ≤ n → m < 2 ^ 64 → true ≡ usable_group n m
+  pub group_any : 0 < m → 64 ≤ n → m < 2 ^ 64 → leb 64 n ≡ usable_group n m
   group_any a h l =
       let p : 2 ^ 64 ≤ 2 ^ n = pow-le-pow_right (lit< tt) h in
-      rw (lt-ltb 0 m (omega arith), lt-ltb m (2 ^ n) (lt_of_lt_of_le l p))
+      rw (le-leb 64 n h, lt-ltb 0 m a, lt-ltb m (2 ^ n) (lt_of_lt_of_le l p))
 
-  pub group_declared : 1 ≤ m → eqb (m / 2 ^ n) 0 ≡ usable_group n m
-  group_declared a = rw (lt-ltb 0 m (omega arith)) (by (ltb m (2 ^ n)) refl)
+  pub group_declared : 0 < m → eqb (m / 2 ^ n) 0 ≡ usable_group n m
+  group_declared a = rw (lt-ltb 0 m a) (by (ltb m (2 ^ n)) refl)
     where
       by : (b : Bool) → ltb m (2 ^ n) ≡ b → eqb (m / 2 ^ n) 0 ≡ b
       by true e = rw (div-eq_of_lt (ltb-true m (2 ^ n) e))

@@ -1,12 +1,14 @@
 -- Function records as the bytes that are lent, two to a record, which the code tests all at once. Assumes nothing.
-use mathlib.Core.Path.{◌≡◌, refl, sym, ◌∙◌}
-use mathlib.Core.Bool.{Bool, true, false, ◌&&◌, and_assoc, and-false, and_comm, false≢true}
-use mathlib.Core.List.{List, map}
+use mathlib.Core.Path.{◌≡◌, sym, ap, ◌∙◌}
+use mathlib.Core.Bool.{Bool, true, false, ◌&&◌, and_assoc, and-false, and-true as and-on, false≢true}
+use mathlib.Core.Logic.{◌⊎◌, inl, inr}
+use mathlib.Core.List.{List, [], ◌∷◌, map}
 use Prim.Native.Nat.{ℕ, zero, suc, ◌+◌, ◌*◌, ◌/◌, ◌%◌, ◌≤◌, ◌<◌}
 use native.Mathlib.Omega.{arith}
 use native.Mathlib.Numerals.{add-one}
 use lib.Bits.{bit_or, or_lt, or_add_and, and_le_l, and_le_r}
 use lib.Dec.{leb}
+use Rattle.std.specs.List.{fold}
 use lib.ListN.{length, drop, get_or, drop_of_length-le}
 use lib.Seq.{drop-cons}
 use borrow.Author.Tests.{lt-ltb, lt-leb, le-leb, leb-true}
@@ -39,21 +41,12 @@ or_small a b = bool_eq (small (bit_or a b)) (small a && small b) there back
         let y : b < 16 = omega (arith, leb-true b 15 w.1) in
         le-leb (bit_or a b) 15 (omega (arith, or_lt 4 a b x y))
 
--- the bits m of the bytes before i, and the bytes from i on
-pub record Joined (ns : List ℕ) (m i : ℕ) : Type 0 where
-  pub inside : i ≤ length ns
-  pub rest : (small m && every small (drop i ns)) ≡ every small ns
+-- the bits m, with those of more bytes
+joined : (m : ℕ) (ns : List ℕ) → small (fold bit_or m ns) ≡ (small m && every small ns)
+joined m [] = sym (and-on (small m))
+joined m (n ∷ ns) = joined (bit_or m n) ns ∙ ap (◌&& every small ns) (or_small m n) ∙ and_assoc (small m) (small n) (every small ns)
 
 module _ (ns : List ℕ) where
-  pub joined_start : Joined ns 0 0
-  joined_start = record { inside = omega arith; rest = refl }
-
-  pub joined_next : (m i : ℕ) → i < length ns → Joined ns m i → Joined ns (bit_or m (get_or ns i 0)) (i + 1)
-  joined_next m i h j = record { inside = omega arith; rest = rw (or_small m (get_or ns i 0)) (and_assoc (small m) (small (get_or ns i 0)) _ ∙ sym step ∙ j.rest) }
-    where
-      step : (small m && every small (drop i ns)) ≡ (small m && (small (get_or ns i 0) && every small (drop (i + 1) ns)))
-      step = rw (add-one, drop-cons ns i 0)
-
   -- k records from record f on are the bytes from 2 f on
   pairs : (f k : ℕ) → 2 * (f + k) ≡ length ns → every usable_function (map (function_at ns) (up_from f k)) ≡ every small (drop (2 * f) ns)
   pairs f zero e = let h : length ns ≤ 2 * f = omega arith in rw (drop_of_length-le ns h)
@@ -74,7 +67,7 @@ module _ (ns : List ℕ) where
       rw (← function_count ns, lt-leb ((length ns + 1) / 2) 16 l)
 
   -- a record that is cut off
-  pub functions_odd : length ns % 2 ≡ 1 → Tells false
+  pub functions_odd : (length ns % 2 ≡ 0 → ⊥) → Tells false
   unfolding usable_functions
   functions_odd h =
       let k : length ns / 2 < length (functions_of ns) = omega (arith, function_count ns) in
@@ -83,10 +76,13 @@ module _ (ns : List ℕ) where
       bad : usable_function (get_or (functions_of ns) (length ns / 2) blank_function) ≡ true → length ns / 2 < length (functions_of ns) → ⊥
       bad u k = let z = rw (← function_broken ns (length ns / 2) k (omega arith)) at u in false≢true z
 
-  pub functions_told : (m i : ℕ) → length ns ≤ 32 → (length ns % 2 ≡ 1 → ⊥) → length ns ≤ i → Joined ns m i → Tells (small m)
+  pub functions_broken : (length ns % 2 ≡ 0 → ⊥) ⊎ ((length ns % 2 ≡ 0) × (32 < length ns)) → Tells false
+  functions_broken (inl h) = functions_odd h
+  functions_broken (inr h) = functions_many h.1
+
+  pub functions_told : length ns % 2 ≡ 0 → length ns ≤ 32 → Tells (small (fold bit_or 0 ns))
   unfolding usable_functions functions_of
-  functions_told m i l o h j =
+  functions_told o l =
       let e : 2 * (0 + (length ns + 1) / 2) ≡ length ns = omega arith in
       let k : (length ns + 1) / 2 ≤ 16 = omega arith in
-      let q : (small m && true) ≡ every small ns = rw (drop_of_length-le ns h) at j.rest in
-      rw (← function_count ns, le-leb ((length ns + 1) / 2) 16 k, pairs 0 ((length ns + 1) / 2) e, ← q) (and_comm true (small m))
+      rw (← function_count ns, le-leb ((length ns + 1) / 2) 16 k, pairs 0 ((length ns + 1) / 2) e) (joined 0 ns)

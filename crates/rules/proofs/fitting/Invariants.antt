@@ -1,10 +1,6 @@
--- `fitting` meets its contract: one walk over the lengths. Assumes nothing.
-use Prim.Native.Nat.{◌-◌}
+-- The lengths before the walk's place are tested. Assumes nothing.
 use Rattle.rules.proofs.Lengths.{Fitting}
 use Rattle.rules.proofs.fitting.Given as goal
 
-abbrev pub invariant-loop-i : goal.invariant-loop-i
-invariant-loop-i l = Fitting l.lengths l.size l.fitting l.i
-
-abbrev pub decreases-loop-i : goal.decreases-loop-i
-decreases-loop-i l = l.n - l.i
+abbrev pub invariant-loop-n : goal.invariant-loop-n
+invariant-loop-n l = Fitting l.lengths l.size l.fitting l.n-index
