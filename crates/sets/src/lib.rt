@@ -10,12 +10,12 @@ ghost use Rattle.sets.specs.Promises.{Below, Named, GroupSet, Lowest};
 use bsmp::{GroupNumber, VariableNumber};
 
 // Whether variable i is marked.
+#[tactic(auto, unfolding(bsmp::specs::Base::has))]
 pub fn is_marked(marks: u64, i: VariableNumber) -> bool
     requires { i.0 < 64 }
     ensures { result ≡ marked marks i }
 {
-    let n = i.0;
-    (marks >> n) % 2 == 1
+    (marks >> i.0) % 2 == 1
 }
 
 // The set of a group. Nothing below this function knows of groups.
@@ -23,20 +23,16 @@ pub fn group_set(writable: u64, groups: &[u64], g: GroupNumber) -> u64
     requires { g.0 < 3 + length groups.now }
     ensures { GroupSet writable groups.now g result }
 {
-    let n = g.0;
-    if n == 0 {
-        return !0;
+    match g.0 {
+        0 => !0,
+        1 => !writable,
+        2 => writable,
+        n => groups[n - 3],
     }
-    if n == 1 {
-        return !writable;
-    }
-    if n == 2 {
-        return writable;
-    }
-    groups[n - 3]
 }
 
 // The marks of the first `count` variables. With 64, which is too far to shift, each mark is one of theirs.
+#[tactic(auto, using(crate::proofs::AtOnce::first_all, crate::proofs::AtOnce::first_some, crate::proofs::AtOnce::first_marks))]
 pub fn declared(set: u64, count: usize) -> u64
     requires { count ≤ 64 }
     ensures { result ≡ set % 2 ^ count }
@@ -51,10 +47,11 @@ pub fn declared(set: u64, count: usize) -> u64
 pub fn count_marks(set: u64) -> usize
     ensures { (result ≡ length (members_below set 64)) × (result ≤ 64) }
 {
-    u64::count_ones(set) as usize
+    set.count_ones() as usize
 }
 
 // Whether all members of a set are marked.
+#[tactic(auto, using(crate::proofs::AtOnce::and_all))]
 pub fn all_marked(set: u64, marks: u64) -> bool
     ensures { result ≡ every (marked marks) (members_below set 64) }
 {
@@ -62,6 +59,7 @@ pub fn all_marked(set: u64, marks: u64) -> bool
 }
 
 // Whether a member of a set is marked.
+#[tactic(auto, using(crate::proofs::AtOnce::and_some))]
 pub fn some_marked(set: u64, marks: u64) -> bool
     ensures { result ≡ some (marked marks) (members_below set 64) }
 {
@@ -69,17 +67,15 @@ pub fn some_marked(set: u64, marks: u64) -> bool
 }
 
 // Whether a group is writable: 1 and 2 are what they are even if empty, another is if all its members are.
+#[tactic(auto, using(crate::proofs::Group::writable_made))]
 pub fn group_writable(g: GroupNumber, set: u64, writable: u64) -> bool
     ensures { result ≡ cond (eqb g.0 1) false (cond (eqb g.0 2) true (every (marked writable) (members_below set 64))) }
 {
-    let n = g.0;
-    if n == 1 {
-        return false;
+    match g.0 {
+        1 => false,
+        2 => true,
+        _ => all_marked(set, writable),
     }
-    if n == 2 {
-        return true;
-    }
-    all_marked(set, writable)
 }
 
 // The lowest member.
@@ -87,10 +83,11 @@ pub fn lowest(set: u64) -> usize
     requires { 0 < set }
     ensures { Lowest set result }
 {
-    u64::trailing_zeros(set) as usize
+    set.trailing_zeros() as usize
 }
 
 // The other members.
+#[tactic(auto, using(crate::proofs::First::mark_there, crate::proofs::First::mark_off))]
 pub fn without_lowest(set: u64, i: usize) -> u64
     requires { Lowest set i }
     ensures { result ≡ set - 2 ^ i }
@@ -104,10 +101,8 @@ pub fn set_of(ids: &[u8]) -> u64
     ensures { Named ids.now result }
 {
     let mut set: u64 = 0;
-    let mut i = 0;
-    while i < ids.len() {
-        set = set | (1 << ids[i]);
-        i += 1;
+    for id in ids {
+        set |= 1 << *id;
     }
     set
 }
