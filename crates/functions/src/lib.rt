@@ -8,24 +8,29 @@ ghost use Rattle.bsmp.specs.declared.Command.TheVariants.{RunFunction};
 ghost use Rattle.parts.specs.Parts.{functions_only, PayloadAt};
 ghost use Rattle.records.specs.Lending.{functions_of};
 
-use bsmp::{Check, Function, FunctionNumber, WireError};
+use bsmp::{Function, FunctionNumber, WireError};
 
 // 50
-pub fn check_run(functions: &[u8], payload: &[u8]) -> Check
+#[tactic(auto, unfolding(
+    bsmp::specs::Message::check,
+    bsmp::specs::Message::line,
+    bsmp::specs::Base::first
+))]
+pub fn check_run(functions: &[u8], payload: &[u8]) -> Result<(), WireError>
     ensures { result ≡ check (functions_only (functions_of functions.now)) [] 0 payload.now RunFunction }
 {
-    if payload.len() < 1 {
-        return Check::Fail(WireError::BadSize);
+    if payload.is_empty() {
+        return Err(WireError::BadSize);
     }
     let f = parts::function_at(payload, 0);
     if records::function_count(functions) <= f.0 {
-        return Check::Fail(WireError::BadId);
+        return Err(WireError::BadId);
     }
     let function = records::function_at(functions, f);
-    if payload.len() != 1 + function.input as usize {
-        return Check::Fail(WireError::BadSize);
+    if payload.len() != 1 + usize::from(function.input) {
+        return Err(WireError::BadSize);
     }
-    Check::Pass
+    Ok(())
 }
 
 // Input count in the high four bits, output in the low four.

@@ -5,7 +5,7 @@ use Prim.Native.Nat.{ℕ}
 use Rattle.bsmp.specs.Board.{Layout}
 use Rattle.bsmp.specs.Message.{line, tests_of, check}
 use Rattle.bsmp.specs.declared.Command.{Command}
-use Rattle.bsmp.specs.declared.Check.TheVariants.{Pass, Fail}
+use Rattle.bsmp.specs.Codes.{Pass, Fail}
 use Rattle.bsmp.proofs.Chain.{clear, first_case}
 use Rattle.bsmp.proofs.Accepted.{fail_no}
 use Rattle.parts.specs.Parts.{Passed}

@@ -5,7 +5,7 @@ use Rattle.bsmp.specs.Message.{check}
 use Rattle.bsmp.specs.declared.Curve.{Curve}
 use Rattle.bsmp.specs.declared.Function.{Function}
 use Rattle.bsmp.specs.declared.Command.{Command}
-use Rattle.bsmp.specs.declared.Check.TheVariants.{Pass}
+use Rattle.bsmp.specs.Codes.{Pass}
 use Rattle.copies.specs.Put.{put}
 
 -- a layout, column by column
