@@ -49,10 +49,8 @@ pub fn list(functions: &[u8], reply: &mut [u8], at: usize) -> usize
         PayloadAt reply.old at (function_list l) result reply.new }
 {
     let n = records::function_count(functions);
-    let mut i = 0;
-    while i < n {
+    for i in 0..n {
         reply[at + i] = list_byte(records::function_at(functions, FunctionNumber(i)));
-        i += 1;
     }
     n
 }

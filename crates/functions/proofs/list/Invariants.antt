@@ -9,6 +9,3 @@ use Rattle.functions.proofs.list.Given as goal
 
 abbrev pub invariant-loop-i : goal.invariant-loop-i
 invariant-loop-i l = Listing (function_list (functions_only (functions_of l.functions))) (length (functions_of l.functions)) l.initial.reply l.at l.i l.reply
-
-abbrev pub decreases-loop-i : goal.decreases-loop-i
-decreases-loop-i l = l.n - l.i
