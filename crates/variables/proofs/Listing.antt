@@ -43,5 +43,5 @@ module _ (ns : List ℕ) (w : ℕ) where
           listing_byte _ _ r₀ at i r q b o h
           (k ∙ ap (λ (x : Bool). listed x (get_or ns i 0)) e ∙ sym (at_number byte_of 0 (length ns) i 0 h ∙ ap byte_of z))
 
-      pub list_end : length ns ≤ i → PayloadAt r₀ at (variable_list (variables_only ns w)) i r
-      list_end h = listing_end _ _ r₀ at i r q i (omega (arith, q.inside)) (omega arith)
+      pub list_end : length ns ≤ i → PayloadAt r₀ at (variable_list (variables_only ns w)) (length ns) r
+      list_end h = listing_end _ _ r₀ at i r q (length ns) (omega arith) (omega arith)

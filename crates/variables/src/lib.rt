@@ -1,30 +1,44 @@
 // The commands of one variable: 10 read, 20 write, 24 mask, 28 write and read, 02 list; and a board store.
 #![tactic(auto)]
 
-ghost use Rattle.std.specs.Prelude.{◌≡◌, true, false, [], ◌∷◌, ◌++◌, ◌+◌, ◌≤◌, ◌<◌, length, drop};
+ghost use Rattle.std.specs.Prelude.{◌≡◌, true, false, cond, ltb, Ok, Err, [], ◌∷◌, ◌++◌, ◌+◌, ◌≤◌, ◌<◌, length, drop};
 ghost use Rattle.bsmp.specs.Base.{first, every, cut, byte_at};
 ghost use Rattle.bsmp.specs.Board.{usable_size};
 ghost use Rattle.bsmp.specs.Message.{variable_at, writes_variable, last_tests, listed, variable_list, check, edited, values_of};
-ghost use Rattle.bsmp.specs.declared.Check.TheVariants.{Pass, Fail};
+ghost use Rattle.bsmp.specs.Codes.{Pass, Fail};
 ghost use Rattle.bsmp.specs.declared.Command.TheVariants.{ReadVariable, WriteVariable, MaskVariable, WriteRead};
+ghost use Rattle.bsmp.specs.declared.WireError.TheVariants.{BadId};
 ghost use Rattle.bsmp.specs.declared.Operation.TheVariants.{Replace};
 ghost use Rattle.sets.specs.Members.{size_at};
 ghost use Rattle.sets.specs.Promises.{Sound};
 ghost use Rattle.parts.specs.Parts.{variables_only, PayloadAt};
 ghost use Rattle.variables.specs.Fits.{OneFits};
 
-use bsmp::{Check, Operation, VariableNumber, WireError};
+use bsmp::{Operation, VariableNumber, WireError};
 
 fn size_of(sizes: &[u8], i: VariableNumber) -> usize
     requires { i.0 < length sizes.now }
     ensures { (result ≡ size_at sizes.now i) × (result < 256) }
 {
-    let n = i.0;
-    sizes[n] as usize
+    usize::from(sizes[i.0])
+}
+
+// The variable that the payload's byte at a place names, if it exists.
+fn known(sizes: &[u8], payload: &[u8], at: usize) -> Result<VariableNumber, WireError>
+    requires { at < length payload.now }
+    ensures { let i = variable_at payload.now at in
+        result ≡ cond (ltb i.0 (length sizes.now)) (Ok i) (Err BadId) }
+{
+    let i = parts::variable_at(payload, at);
+    if sizes.len() <= i.0 {
+        return Err(WireError::BadId);
+    }
+    Ok(i)
 }
 
 // The tests of a write that come after its front: variable i, named first, gets the bytes behind it; busy is whether a variable that the
 // command touches is.
+#[tactic(auto, unfolding(bsmp::specs::Message::writes_variable, bsmp::specs::Base::first))]
 fn writes(
     sizes: &[u8],
     writable: u64,
@@ -32,7 +46,7 @@ fn writes(
     i: VariableNumber,
     front: usize,
     busy: bool,
-) -> Check
+) -> Result<(), WireError>
     requires { (length sizes.now ≤ 64) × (i ≡ variable_at payload.now 0) × (i.0 < length sizes.now) × (front ≤ 2) }
     ensures { let l = variables_only sizes.now writable in
         result ≡ first (writes_variable l payload.now front ++ last_tests busy false) Fail Pass }
@@ -40,81 +54,75 @@ fn writes(
     let is_whole = payload.len() == front + size_of(sizes, i);
     let is_writable = sets::is_marked(writable, i);
     if !is_whole {
-        return Check::Fail(WireError::BadSize);
+        return Err(WireError::BadSize);
     }
     if !is_writable {
-        return Check::Fail(WireError::ReadOnly);
+        return Err(WireError::ReadOnly);
     }
     if busy {
-        return Check::Fail(WireError::Busy);
+        return Err(WireError::Busy);
     }
-    Check::Pass
+    Ok(())
 }
 
 // A check gives the first error of its command's tests, or a pass. All take the same, so that a new rule moves a body only.
-pub fn check_read(sizes: &[u8], writable: u64, payload: &[u8], busy: u64) -> Check
+#[tactic(auto, unfolding(bsmp::specs::Message::check, bsmp::specs::Message::line, bsmp::specs::Base::first))]
+pub fn check_read(sizes: &[u8], writable: u64, payload: &[u8], busy: u64) -> Result<(), WireError>
     requires { length sizes.now ≤ 64 }
     ensures { result ≡ check (variables_only sizes.now writable) [] busy payload.now ReadVariable }
 {
     if payload.len() != 1 {
-        return Check::Fail(WireError::BadSize);
+        return Err(WireError::BadSize);
     }
-    let i = parts::variable_at(payload, 0);
-    if sizes.len() <= i.0 {
-        return Check::Fail(WireError::BadId);
-    }
+    let i = known(sizes, payload, 0)?;
     if sets::is_marked(busy, i) {
-        return Check::Fail(WireError::Busy);
+        return Err(WireError::Busy);
     }
-    Check::Pass
+    Ok(())
 }
 
-pub fn check_write(sizes: &[u8], writable: u64, payload: &[u8], busy: u64) -> Check
+#[tactic(auto, unfolding(bsmp::specs::Message::check, bsmp::specs::Message::line, bsmp::specs::Base::first))]
+pub fn check_write(sizes: &[u8], writable: u64, payload: &[u8], busy: u64) -> Result<(), WireError>
     requires { length sizes.now ≤ 64 }
     ensures { result ≡ check (variables_only sizes.now writable) [] busy payload.now WriteVariable }
 {
-    if payload.len() < 1 {
-        return Check::Fail(WireError::BadSize);
+    if payload.is_empty() {
+        return Err(WireError::BadSize);
     }
-    let i = parts::variable_at(payload, 0);
-    if sizes.len() <= i.0 {
-        return Check::Fail(WireError::BadId);
-    }
+    let i = known(sizes, payload, 0)?;
     writes(sizes, writable, payload, i, 1, sets::is_marked(busy, i))
 }
 
-pub fn check_mask(sizes: &[u8], writable: u64, payload: &[u8], busy: u64) -> Check
+#[tactic(auto, unfolding(bsmp::specs::Message::check, bsmp::specs::Message::line, bsmp::specs::Base::first))]
+pub fn check_mask(sizes: &[u8], writable: u64, payload: &[u8], busy: u64) -> Result<(), WireError>
     requires { length sizes.now ≤ 64 }
     ensures { result ≡ check (variables_only sizes.now writable) [] busy payload.now MaskVariable }
 {
     if payload.len() < 2 {
-        return Check::Fail(WireError::BadSize);
+        return Err(WireError::BadSize);
     }
-    let i = parts::variable_at(payload, 0);
-    if sizes.len() <= i.0 {
-        return Check::Fail(WireError::BadId);
-    }
+    let i = known(sizes, payload, 0)?;
     if bsmp::no_operation(payload[1]) {
-        return Check::Fail(WireError::Unsupported);
+        return Err(WireError::Unsupported);
     }
     writes(sizes, writable, payload, i, 2, sets::is_marked(busy, i))
 }
 
-pub fn check_write_read(sizes: &[u8], writable: u64, payload: &[u8], busy: u64) -> Check
+#[tactic(auto, unfolding(bsmp::specs::Message::check, bsmp::specs::Message::line, bsmp::specs::Base::first))]
+pub fn check_write_read(
+    sizes: &[u8],
+    writable: u64,
+    payload: &[u8],
+    busy: u64,
+) -> Result<(), WireError>
     requires { length sizes.now ≤ 64 }
     ensures { result ≡ check (variables_only sizes.now writable) [] busy payload.now WriteRead }
 {
     if payload.len() < 2 {
-        return Check::Fail(WireError::BadSize);
+        return Err(WireError::BadSize);
     }
-    let written = parts::variable_at(payload, 0);
-    if sizes.len() <= written.0 {
-        return Check::Fail(WireError::BadId);
-    }
-    let read = parts::variable_at(payload, 1);
-    if sizes.len() <= read.0 {
-        return Check::Fail(WireError::BadId);
-    }
+    let written = known(sizes, payload, 0)?;
+    let read = known(sizes, payload, 1)?;
     writes(
         sizes,
         writable,
@@ -196,10 +204,7 @@ fn list_byte(writable: bool, size: u8) -> u8
     requires { size ≤ 127 }
     ensures { result ≡ listed writable size }
 {
-    if writable {
-        return 128 + size;
-    }
-    size
+    128 * u8::from(writable) + size
 }
 
 // A byte per variable into the reply from `at` on, top bit 1 if writable, low seven the size; answers how many they are.
@@ -207,10 +212,8 @@ pub fn list(sizes: &[u8], writable: u64, reply: &mut [u8], at: usize) -> usize
     requires { (length sizes.now ≤ 64) × (every usable_size sizes.now ≡ true) × (at + 4099 ≤ length reply.old) }
     ensures { PayloadAt reply.old at (variable_list (variables_only sizes.now writable)) result reply.new }
 {
-    let mut i = 0;
-    while i < sizes.len() {
-        reply[at + i] = list_byte(sets::is_marked(writable, VariableNumber(i)), sizes[i]);
-        i += 1;
+    for (i, size) in sizes.iter().enumerate() {
+        reply[at + i] = list_byte(sets::is_marked(writable, VariableNumber(i)), *size);
     }
-    i
+    sizes.len()
 }

@@ -1,5 +1,4 @@
 -- `list` meets its contract. Assumes nothing.
-use Prim.Native.Nat.{◌-◌}
 use lib.ListN.{length}
 use Rattle.bsmp.specs.Message.{variable_list}
 use Rattle.parts.specs.Parts.{variables_only}
@@ -8,6 +7,3 @@ use Rattle.variables.proofs.list.Given as goal
 
 abbrev pub invariant-loop-i : goal.invariant-loop-i
 invariant-loop-i l = Listing (variable_list (variables_only l.sizes l.writable)) (length l.sizes) l.initial.reply l.at l.i l.reply
-
-abbrev pub decreases-loop-i : goal.decreases-loop-i
-decreases-loop-i l = length l.sizes - l.i
