@@ -101,9 +101,6 @@ module _ (cs : List Curve) (ns p : List ℕ) (b : Block) (z : SoundLengths cs ns
   length_own : get_or ns b.place 0 ≤ (named_curve cs p).size
   length_own = rw (w.place, ← w.own) (fitting_most (block_sizes cs) ns z.fit (place_of cs p))
 
-  pub length_fits : Fits w64 (get_or ns b.place 0)
-  length_fits = record { fits = omega (arith, length_own, w.small) }
-
   pub answer_room : (at : ℕ) (r r₁ : List ℕ) → at + 4099 ≤ length r → length r₁ ≡ length r → at + 3 + get_or ns b.place 0 ≤ length r₁
   answer_room at r r₁ o e = omega (arith, length_own, w.small)
 

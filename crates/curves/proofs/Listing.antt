@@ -6,7 +6,7 @@ use Prim.Native.Nat.{ℕ, zero, suc, ◌+◌, ◌*◌, ◌/◌, ◌%◌, ◌≤�
 use native.Mathlib.Omega.{arith}
 use lib.ListN.{length, drop, set, get_or, length-append, length-set}
 use lib.Seq.{drop-append_seam, drop-append-add}
-use borrow.Author.Tests.{eq-eqb, ne_eqb}
+use Rattle.std.specs.Int.{to_be_bytes, w32}
 use Rattle.bsmp.specs.Base.{join, bit, word}
 use Rattle.bsmp.specs.Board.{is_writable, blank_curve, usable_curves}
 use Rattle.bsmp.specs.Message.{curve_record, curve_list}
@@ -17,19 +17,13 @@ use Rattle.parts.specs.Parts.{curves_only, PayloadAt}
 use Rattle.parts.proofs.Listing.{Listing, listing_start, listing_piece, listing_end}
 use Rattle.records.proofs.Sound.{curves_most}
 
--- a type
-module _ (w : ℕ) (r : List ℕ) (at : ℕ) (h : at < length r) where
-  pub type_on : w ≡ 1 → set r at 1 ≡ put r at (bit (is_writable w) ∷ [])
-  type_on e = rw (eq-eqb w 1 e) (set_put r at 1 h)
-
-  pub type_off : (w ≡ 1 → ⊥) → set r at 0 ≡ put r at (bit (is_writable w) ∷ [])
-  type_off e = rw (ne_eqb w 1 e) (set_put r at 0 h)
-
--- a two-byte field, byte after byte
-pub word_put : (n : ℕ) (r : List ℕ) (at : ℕ) → at + 2 ≤ length r → set (set r at (n / 256 % 256)) (at + 1) (n % 256) ≡ put r at (word n)
-word_put n r at h =
+-- a two-byte field, byte after byte: the last two that the machine makes of the number
+pub word_put : (n : ℕ) (bs r : List ℕ) (at : ℕ) → at + 2 ≤ length r → bs ≡ to_be_bytes w32 n → set (set r at (get_or bs 2 0)) (at + 1) (get_or bs 3 0) ≡ put r at (word n)
+word_put n bs r at h e =
+    let x : get_or bs 2 0 ≡ n / 256 % 256 = rw e in
+    let y : get_or bs 3 0 ≡ n % 256 = rw e in
     let k : at + 1 < length (set r at (n / 256 % 256)) = simp length-set (omega arith) in
-    set_put (set r at (n / 256 % 256)) (at + 1) (n % 256) k ∙ put_set r at (n / 256 % 256) (n % 256 ∷ []) (omega arith)
+    rw (x, y) (set_put (set r at (n / 256 % 256)) (at + 1) (n % 256) k ∙ put_set r at (n / 256 % 256) (n % 256 ∷ []) (omega arith))
 
 -- a record: its type, and two fields
 pub record_put : (x : Curve) (r r₁ r₂ r₃ : List ℕ) (at : ℕ) → at + 5 ≤ length r → r₁ ≡ put r at (bit (is_writable x.writable) ∷ [])

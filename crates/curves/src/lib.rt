@@ -1,17 +1,18 @@
 // The commands of curves: 40 reads a block, 41 writes one, 08 lists the curves; and the tests of 0A and 42, which are about a curve's sum.
 #![tactic(auto)]
 
-ghost use Rattle.std.specs.Prelude.{◌≡◌, true, [], ◌∷◌, ◌++◌, ◌+◌, ◌≤◌, ◌<◌, ltb, length, drop, set};
+ghost use Rattle.std.specs.Prelude.{◌≡◌, true, cond, Ok, Err, [], ◌∷◌, ◌++◌, ◌+◌, ◌≤◌, ◌<◌, ltb, length, drop, set};
 ghost use Rattle.bsmp.specs.Base.{bit, word, word_at};
 ghost use Rattle.bsmp.specs.Board.{is_writable, usable_curves};
-ghost use Rattle.bsmp.specs.Message.{curve_record, curve_list, check, filled};
+ghost use Rattle.bsmp.specs.Message.{curve_at, curve_record, curve_list, check, filled};
+ghost use Rattle.bsmp.specs.declared.WireError.TheVariants.{BadId};
 ghost use Rattle.bsmp.specs.declared.Command.TheVariants.{ReadSum, ReadBlock, WriteBlock};
 ghost use Rattle.copies.specs.Put.{put};
 ghost use Rattle.parts.specs.Parts.{curves_only, PayloadAt};
 ghost use Rattle.records.specs.Lending.{curves_of};
 ghost use Rattle.curves.specs.Fits.{SoundCurves, SoundLengths, BlockNamed, BlockRead, BlockFits, blocks_in, place_of, named_block, named_content, BlockAt};
 
-use bsmp::{Check, Curve, CurveNumber, WireError};
+use bsmp::{Curve, CurveNumber, WireError};
 
 // The number, in its curve, of the block that a payload names.
 fn block_number(payload: &[u8]) -> usize
@@ -19,6 +20,19 @@ fn block_number(payload: &[u8]) -> usize
     ensures { result ≡ word_at payload.now 1 }
 {
     parts::word(payload[1], payload[2])
+}
+
+// The curve that a payload names, if it exists.
+fn known(curves: &[u32], payload: &[u8]) -> Result<CurveNumber, WireError>
+    requires { 0 < length payload.now }
+    ensures { let c = curve_at payload.now 0 in
+        result ≡ cond (ltb c.0 (length (curves_of curves.now))) (Ok c) (Err BadId) }
+{
+    let c = parts::curve_at(payload, 0);
+    if records::curve_count(curves) <= c.0 {
+        return Err(WireError::BadId);
+    }
+    Ok(c)
 }
 
 fn has_block(curve: Curve, payload: &[u8]) -> bool
@@ -29,49 +43,45 @@ fn has_block(curve: Curve, payload: &[u8]) -> bool
 }
 
 // 40
-pub fn check_read(curves: &[u32], payload: &[u8]) -> Check
+#[tactic(auto, unfolding(bsmp::specs::Message::check, bsmp::specs::Message::line, bsmp::specs::Base::first))]
+pub fn check_read(curves: &[u32], payload: &[u8]) -> Result<(), WireError>
     ensures { result ≡ check (curves_only (curves_of curves.now)) [] 0 payload.now ReadBlock }
 {
     if payload.len() != 3 {
-        return Check::Fail(WireError::BadSize);
+        return Err(WireError::BadSize);
     }
-    let c = parts::curve_at(payload, 0);
-    if records::curve_count(curves) <= c.0 {
-        return Check::Fail(WireError::BadId);
-    }
+    let c = known(curves, payload)?;
     let curve = records::curve_at(curves, c);
     if !has_block(curve, payload) {
-        return Check::Fail(WireError::BadValue);
+        return Err(WireError::BadValue);
     }
-    Check::Pass
+    Ok(())
 }
 
 // 41
-pub fn check_write(curves: &[u32], payload: &[u8]) -> Check
+#[tactic(auto, unfolding(bsmp::specs::Message::check, bsmp::specs::Message::line, bsmp::specs::Base::first))]
+pub fn check_write(curves: &[u32], payload: &[u8]) -> Result<(), WireError>
     ensures { result ≡ check (curves_only (curves_of curves.now)) [] 0 payload.now WriteBlock }
 {
     if payload.len() < 3 {
-        return Check::Fail(WireError::BadSize);
+        return Err(WireError::BadSize);
     }
-    let c = parts::curve_at(payload, 0);
-    if records::curve_count(curves) <= c.0 {
-        return Check::Fail(WireError::BadId);
-    }
+    let c = known(curves, payload)?;
     let curve = records::curve_at(curves, c);
     if !has_block(curve, payload) {
-        return Check::Fail(WireError::BadValue);
+        return Err(WireError::BadValue);
     }
     let rest = payload.len() - 3;
     if rest < 1 {
-        return Check::Fail(WireError::BadSize);
+        return Err(WireError::BadSize);
     }
     if (curve.size as usize) < rest {
-        return Check::Fail(WireError::BadSize);
+        return Err(WireError::BadSize);
     }
     if curve.writable != 1 {
-        return Check::Fail(WireError::ReadOnly);
+        return Err(WireError::ReadOnly);
     }
-    Check::Pass
+    Ok(())
 }
 
 // Where the block that a payload names stands: in the store from a byte on, and its length at a place.
@@ -82,6 +92,7 @@ struct Block {
 }
 
 impl Block {
+    #[tactic(auto, using(crate::proofs::BlockAt::named_inside, crate::proofs::BlockAt::placed_mul, crate::proofs::BlockAt::placed_add, crate::proofs::BlockAt::placed_number))]
     fn of(curves: &[u32], payload: &[u8]) -> Block
         requires curves_value { usable_curves (curves_of curves.now) ≡ true }
         requires block_named { BlockNamed (curves_of curves.now) payload.now }
@@ -99,6 +110,7 @@ impl Block {
 }
 
 // 41: the first bytes of the block named, as many as the payload carries, replaced, and their number its length.
+#[tactic(auto, using(crate::proofs::BlockAt::at_inside, crate::proofs::BlockAt::carried_fits, crate::proofs::BlockAt::block_filled, crate::proofs::BlockAt::length_set_there))]
 pub fn change(curves: &[u32], blocks: &mut [u8], lengths: &mut [u16], payload: &[u8])
     requires sound_curves { SoundCurves (curves_of curves.now) blocks.old × SoundLengths (curves_of curves.now) lengths.old }
     requires block_fits { BlockFits (curves_of curves.now) payload.now }
@@ -117,6 +129,7 @@ pub fn change(curves: &[u32], blocks: &mut [u8], lengths: &mut [u16], payload: &
 }
 
 // 41 as an answer: curve and block number as they came, and what the block holds.
+#[tactic(auto, using(crate::proofs::BlockAt::answer_count))]
 pub fn tell(
     curves: &[u32],
     blocks: &[u8],
@@ -141,41 +154,39 @@ pub fn tell(
 }
 
 // 0A and 42, whose tests are the same: a curve, and nothing else.
-pub fn check_sum(curves: &[u32], payload: &[u8]) -> Check
+#[tactic(auto, unfolding(bsmp::specs::Message::check, bsmp::specs::Message::line, bsmp::specs::Base::first))]
+pub fn check_sum(curves: &[u32], payload: &[u8]) -> Result<(), WireError>
     ensures { result ≡ check (curves_only (curves_of curves.now)) [] 0 payload.now ReadSum }
 {
     if payload.len() != 1 {
-        return Check::Fail(WireError::BadSize);
+        return Err(WireError::BadSize);
     }
-    let c = parts::curve_at(payload, 0);
-    if records::curve_count(curves) <= c.0 {
-        return Check::Fail(WireError::BadId);
-    }
-    Check::Pass
+    known(curves, payload)?;
+    Ok(())
 }
 
 // A type: 1 if writable.
+#[tactic(auto, using(copies::proofs::Put::set_put))]
 fn put_type(writable: u32, reply: &mut [u8], at: usize)
     requires { at < length reply.old }
     ensures { reply.new ≡ put reply.old at (bit (is_writable writable) ∷ []) }
 {
-    if writable == 1 {
-        reply[at] = 1;
-        return;
-    }
-    reply[at] = 0;
+    reply[at] = u8::from(writable == 1);
 }
 
-// A two-byte field, most significant first.
+// A two-byte field, most significant first; of a larger number its last two bytes.
+#[tactic(auto, using(crate::proofs::Listing::word_put))]
 fn put_word(n: u32, reply: &mut [u8], at: usize)
     requires { at + 2 ≤ length reply.old }
     ensures { reply.new ≡ put reply.old at (word n) }
 {
-    reply[at] = (n / 256 % 256) as u8;
-    reply[at + 1] = (n % 256) as u8;
+    let [_, _, high, low] = n.to_be_bytes();
+    reply[at] = high;
+    reply[at + 1] = low;
 }
 
 // A curve's type, block size and blocks into the reply from `at` on; 65,536 blocks are sent as 0.
+#[tactic(auto, using(crate::proofs::Listing::record_put))]
 fn list_record(curve: Curve, reply: &mut [u8], at: usize)
     requires { at + 5 ≤ length reply.old }
     ensures { reply.new ≡ put reply.old at (curve_record curve) }
@@ -193,10 +204,8 @@ pub fn list(curves: &[u32], reply: &mut [u8], at: usize) -> usize
         PayloadAt reply.old at (curve_list l) result reply.new }
 {
     let n = records::curve_count(curves);
-    let mut i = 0;
-    while i < n {
+    for i in 0..n {
         list_record(records::curve_at(curves, CurveNumber(i)), reply, at + 5 * i);
-        i += 1;
     }
     5 * n
 }

@@ -4,7 +4,7 @@ use mathlib.Core.List.{List, [], ◌∷◌, ◌++◌}
 use Prim.Native.Nat.{ℕ, zero, suc, ◌+◌, ◌%◌, ◌≤◌, ◌<◌}
 use native.Mathlib.Numerals.{add-one}
 use native.Mathlib.Omega.{arith}
-use lib.ListN.{length, take, drop, get_or, drop_of_length-le}
+use lib.ListN.{length, take, drop, get_or}
 use Rattle.bsmp.specs.Base.{sum}
 use Rattle.std.specs.Prelude.{fold}
 use lib.Seq.{take-suc, drop-cons}
@@ -40,10 +40,6 @@ total_split (x ∷ l) (suc n) = omega (arith, total_split l n)
 -- the value at n lies within the whole
 pub total_within : (l : List ℕ) (n : ℕ) → n < length l → sum (take n l) + get_or l n 0 ≤ sum l
 total_within l n h = omega (arith, total_take l n h, total_split l (n + 1))
-
--- past the end nothing is left
-pub total_end : (l : List ℕ) (i : ℕ) → length l ≤ i → sum (drop i l) ≡ 0
-total_end l i h = rw (drop_of_length-le l h, total_nil)
 
 -- the bytes added up as the machine does, each sum modulo 256
 pub sum_wraps : (a : ℕ) (l : List ℕ) → fold (λ s x. (s + x) % 256) a l % 256 ≡ (a + sum l) % 256

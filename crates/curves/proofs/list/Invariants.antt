@@ -1,5 +1,5 @@
 -- `list` meets its contract: one walk over the records. Assumes nothing.
-use Prim.Native.Nat.{◌-◌, ◌*◌}
+use Prim.Native.Nat.{◌*◌}
 use lib.ListN.{length}
 use Rattle.bsmp.specs.Message.{curve_list}
 use Rattle.parts.specs.Parts.{curves_only}
@@ -9,6 +9,3 @@ use Rattle.curves.proofs.list.Given as goal
 
 abbrev pub invariant-loop-i : goal.invariant-loop-i
 invariant-loop-i l = Listing (curve_list (curves_only (curves_of l.curves))) (5 * length (curves_of l.curves)) l.initial.reply l.at (5 * l.i) l.reply
-
-abbrev pub decreases-loop-i : goal.decreases-loop-i
-decreases-loop-i l = l.n - l.i
