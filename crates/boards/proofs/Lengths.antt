@@ -1,6 +1,6 @@
 -- Lengths as the code tests them: curve after curve, or all in one walk where the blocks have one size. Assumes nothing.
 use mathlib.Core.Path.{◌≡◌, refl, sym, ap, ap₂, ◌∙◌}
-use mathlib.Core.Bool.{Bool, true, false, cond, not, ◌&&◌, and_assoc, and-true as and-on}
+use mathlib.Core.Bool.{Bool, true, false, not, ◌&&◌, and_assoc, and-true as and-on}
 use mathlib.Core.List.{List, [], ◌∷◌, ◌++◌, append-nil}
 use Prim.Native.Nat.{ℕ, zero, suc, ◌+◌, ◌-◌, ◌*◌, ◌≤◌, ◌<◌}
 use native.Mathlib.Omega.{arith}
@@ -23,7 +23,8 @@ use Rattle.records.proofs.Sound.{curve_size}
 use Rattle.records.proofs.Blocks.{block_count, blocks_next, blocks_within, blocks_add, blocks_front}
 use Rattle.rules.specs.Totals.{common_size, first_size, curves_total}
 use Rattle.rules.specs.declared.CurveTotal.{CurveTotal}
-use Rattle.rules.proofs.Totals.{curves_told, curves_usable}
+use Rattle.std.specs.Prelude.{Some}
+use Rattle.rules.proofs.Totals.{told_usable, told_some}
 use Rattle.rules.proofs.Thirds.{of_size}
 
 -- k blocks of one size before others
@@ -40,34 +41,31 @@ one_size z (c ∷ cs) h =
     let w : (eqb c.size z ≡ true) × (every (of_size z) cs ≡ true) = and_true _ _ h in
     ap₂ (λ n ms. replicate c.blocks n ++ ms) (eqb-true _ _ w.0) (one_size z cs w.1) ∙ replicate-append-replicate c.blocks (curve_blocks cs) z
 
-common_size_lem : (cs : List Curve) → 0 < common_size cs → block_sizes cs ≡ replicate (curve_blocks cs) (common_size cs)
-common_size_lem cs = by (every (of_size (first_size cs)) cs) refl
+first_short : (cs : List Curve) → usable_curves cs ≡ true → first_size cs ≤ 4096
+first_short cs u = by (dec_lt 0 (length cs))
   where
-    by : (b : Bool) → every (of_size (first_size cs)) cs ≡ b → 0 < cond b (first_size cs) 0 → block_sizes cs ≡ replicate (curve_blocks cs) (cond b (first_size cs) 0)
-    by true e h = one_size (first_size cs) cs e
-    by false e h = absurd (omega (arith, h))
-
-common_short : (cs : List Curve) → usable_curves cs ≡ true → common_size cs ≤ 4096
-common_short cs u = by (every (of_size (first_size cs)) cs) (dec_lt 0 (length cs))
-  where
-    by : (b : Bool) → Dec (0 < length cs) → cond b (first_size cs) 0 ≤ 4096
-    by false k = omega arith
-    by true (yes k) = (curve_size cs u 0 k).1
-    by true (no k) = let o : first_size cs ≡ 0 = ap (λ (c : Curve). c.size) (get_or-eq_default cs blank_curve (omega arith)) in omega (arith, o)
+    by : Dec (0 < length cs) → first_size cs ≤ 4096
+    by (yes k) = (curve_size cs u 0 k).1
+    by (no k) = let o : first_size cs ≡ 0 = ap (λ (c : Curve). c.size) (get_or-eq_default cs blank_curve (omega arith)) in omega (arith, o)
 
 -- d is what the curves add up to
-module _ (cs : List Curve) (d : CurveTotal) (e : d ≡ curves_total cs) (u : d.usable ≡ true) where
+module _ (cs : List Curve) (d : CurveTotal) (e : Some d ≡ curves_total cs) where
   pub usable_ones : usable_curves cs ≡ true
-  usable_ones = sym (curves_usable _ _ d e) ∙ u
+  usable_ones = told_usable _ _ d e
 
   blocks_told : d.blocks ≡ curve_blocks cs
-  blocks_told = ap (λ (y : CurveTotal). y.blocks) (curves_told _ _ d e u)
+  blocks_told = ap (λ (y : CurveTotal). y.blocks) (told_some _ _ d e)
 
-  size_told : d.size ≡ common_size cs
-  size_told = ap (λ (y : CurveTotal). y.size) (curves_told _ _ d e u)
+  -- z is the size of all blocks
+  module _ (z : ℕ) (t : d.size ≡ Some z) where
+    size_told : Some z ≡ common_size cs
+    size_told = sym t ∙ ap (λ (y : CurveTotal). y.size) (told_some _ _ d e)
 
-  pub common_fits : Fits w16 d.size
-  common_fits = record { fits = omega (arith, size_told, common_short cs usable_ones) }
+    pub common_fits : Fits w16 z
+    common_fits = record { fits = omega (arith, told_some _ _ z size_told, first_short cs usable_ones) }
+
+    each_alike : every (of_size z) cs ≡ true
+    each_alike = let o : z ≡ first_size cs = told_some _ _ z size_told in ap (λ n. every (of_size n) cs) o ∙ told_usable _ _ z size_told
 
   module _ (ns : List ℕ) where
     pub lengths_counted : d.blocks ≡ length ns → length ns ≡ curve_blocks cs
@@ -76,13 +74,13 @@ module _ (cs : List Curve) (d : CurveTotal) (e : d ≡ curves_total cs) (u : d.u
     pub lengths_uneven : (d.blocks ≡ length ns → ⊥) → false ≡ fitting (block_sizes cs) ns
     lengths_uneven n = sym (not_so _ (λ f. n (blocks_told ∙ sym (block_count cs) ∙ sym (fitting_count (block_sizes cs) ns f))))
 
-    pub fitted_at_once : (b : Bool) → d.blocks ≡ length ns → 0 < d.size → b ≡ every (within 1 d.size) ns → b ≡ fitting (block_sizes cs) ns
-    fitted_at_once b l h q =
+    pub fitted_at_once : (z : ℕ) (b : Bool) → d.blocks ≡ length ns → d.size ≡ Some z → b ≡ every (within 1 z) ns → b ≡ fitting (block_sizes cs) ns
+    fitted_at_once z b l t q =
         let n : length ns ≡ curve_blocks cs = lengths_counted l in
-        let o : block_sizes cs ≡ replicate (curve_blocks cs) d.size ++ [] = rw (append-nil, size_told) (common_size_lem cs (rw size_told at h)) in
+        let o : block_sizes cs ≡ replicate (curve_blocks cs) z ++ [] = rw append-nil (one_size z cs (each_alike z t)) in
         let k : take (curve_blocks cs) ns ≡ ns = take_all (curve_blocks cs) ns (omega arith) in
-        let z : drop (curve_blocks cs) ns ≡ [] = drop_of_length-le ns {i = curve_blocks cs} (omega arith) in
-        q ∙ sym (ap (λ ms. fitting ms ns) o ∙ fitting_part (curve_blocks cs) d.size [] ns (omega arith) ∙ rw (k, z) (and-on _))
+        let y : drop (curve_blocks cs) ns ≡ [] = drop_of_length-le ns {i = curve_blocks cs} (omega arith) in
+        q ∙ sym (ap (λ ms. fitting ms ns) o ∙ fitting_part (curve_blocks cs) z [] ns (omega arith) ∙ rw (k, y) (and-on _))
 
 -- curve after curve: the walk stands at curve i, whose first length is at `first`, and so far each fitted ---------------------
 pub record Fitted (cs : List Curve) (ns : List ℕ) (first i : ℕ) : Type 0 where

@@ -14,10 +14,10 @@ use Rattle.bsmp.specs.Store.{Lent, held}
 use Rattle.bsmp.proofs.Bools.{and_true, not_so, bool_eq}
 use Rattle.bsmp.proofs.Store.{curve_bytes_lem, sum_bytes}
 use Rattle.bsmp.proofs.Fresh.{full_sizes, fit_count, curves_fit}
-use Rattle.rules.proofs.Totals.{total_usable, total_bytes, curves_usable, curves_told}
+use Rattle.std.specs.Prelude.{Some, None}
+use Rattle.rules.proofs.Totals.{told_none, told_usable, told_some}
 use Rattle.records.specs.declared.Records.{Records}
 use Rattle.records.specs.declared.Groups.{Groups}
-use Rattle.rules.specs.declared.Total.{Total}
 use Rattle.rules.specs.declared.CurveTotal.{CurveTotal}
 use Rattle.records.specs.Lending.{records_of, curves_of, functions_of, groups_of, table_of, lent}
 use Rattle.rules.specs.Totals.{variables_total, curves_total}
@@ -73,23 +73,23 @@ module _ (r : Records) (cs fs vs bs ns ds : List ℕ) (g : Groups) where
   unless : (b b' : Bool) → b ≡ b' → not b ≡ true → b' ≡ true → ⊥
   unless b b' e h q = false≢true (sym (not-true b h) ∙ e ∙ q)
 
-  board_variables : (c : Total) → c ≡ variables_total (records_of r) → not c.usable ≡ true → false ≡ whole
-  board_variables c e h = refused (λ s. unless _ _ (total_usable _ _ c e) h s.variables)
+  board_variables : None ≡ variables_total (records_of r) → false ≡ whole
+  board_variables e = refused (λ s. false≢true (sym (told_none _ _ e) ∙ s.variables))
 
-  board_values : (c : Total) → c ≡ variables_total (records_of r) → not c.usable ≡ false → (c.bytes ≡ length vs → ⊥) → false ≡ whole
-  board_values c e h n = refused (λ s. n (total_bytes _ _ c e (not-false _ h) ∙ sym s.values))
+  board_values : (n : ℕ) → Some n ≡ variables_total (records_of r) → (n ≡ length vs → ⊥) → false ≡ whole
+  board_values n e h = refused (λ s. h (told_some _ _ n e ∙ sym s.values))
 
-  pub board_curves : (d : CurveTotal) → d ≡ curves_total (curves_of cs) → not d.usable ≡ true → false ≡ whole
-  board_curves d e h = refused (λ s. unless _ _ (curves_usable _ _ d e) h s.curves)
+  pub board_curves : None ≡ curves_total (curves_of cs) → false ≡ whole
+  board_curves e = refused (λ s. false≢true (sym (told_none _ _ e) ∙ s.curves))
 
-  curve_total : (d : CurveTotal) → d ≡ curves_total (curves_of cs) → not d.usable ≡ false → d.bytes ≡ sum (block_sizes (curves_of cs))
-  curve_total d e h = ap (λ (y : CurveTotal). y.bytes) (curves_told _ _ d e (not-false _ h)) ∙ sym (curve_bytes_lem (curves_of cs))
+  curve_bytes_told : (d : CurveTotal) → Some d ≡ curves_total (curves_of cs) → d.bytes ≡ sum (block_sizes (curves_of cs))
+  curve_bytes_told d e = ap (λ (y : CurveTotal). y.bytes) (told_some _ _ d e) ∙ sym (curve_bytes_lem (curves_of cs))
 
   pub board_lengths : (b : Bool) → b ≡ fitting (block_sizes (curves_of cs)) ns → not b ≡ true → false ≡ whole
   board_lengths b e h = refused (λ s. unless b _ e h s.lengths)
 
-  pub board_blocks : (d : CurveTotal) → d ≡ curves_total (curves_of cs) → not d.usable ≡ false → (d.bytes ≡ length bs → ⊥) → false ≡ whole
-  board_blocks d e h n = refused (λ s. n (curve_total d e h ∙ sym s.blocks))
+  pub board_blocks : (d : CurveTotal) → Some d ≡ curves_total (curves_of cs) → (d.bytes ≡ length bs → ⊥) → false ≡ whole
+  board_blocks d e n = refused (λ s. n (curve_bytes_told d e ∙ sym s.blocks))
 
   pub board_sums : (b : Bool) → b ≡ eqb (3 * length ds) (16 * length cs) → not b ≡ true → false ≡ whole
   board_sums b e h = refused (λ s. unless b _ e h (sums_enough cs ds s.curves s.sums))
@@ -109,15 +109,15 @@ module _ (r : Records) (cs fs vs bs ns ds : List ℕ) (g : Groups) where
   last true so never = sym (sound_usable table lending (so refl))
   last false so never = refused (never refl)
 
-  module _ (d : CurveTotal) (a b m : Bool) (ed : d ≡ curves_total (curves_of cs)) (hd : not d.usable ≡ false) (vd : d.bytes ≡ length bs)
+  module _ (d : CurveTotal) (a b m : Bool) (ed : Some d ≡ curves_total (curves_of cs)) (vd : d.bytes ≡ length bs)
       (em : m ≡ eqb (3 * length ds) (16 * length cs)) (hm : not m ≡ false)
       (ea : a ≡ usable_functions (functions_of fs)) (eb : b ≡ usable_groups r.count (groups_of g)) where
     sound : fitting (block_sizes (curves_of cs)) ns ≡ true → usable_variables (records_of r) ≡ true → length vs ≡ sum (sizes_of (records_of r)) → a ≡ true → b ≡ true → Sound table lending
     sound hl hv vv ha hb = record {
       variables = hv;
       values = vv;
-      curves = sym (curves_usable _ _ d ed) ∙ not-false _ hd;
-      blocks = sym vd ∙ curve_total d ed hd;
+      curves = told_usable _ _ d ed;
+      blocks = sym vd ∙ curve_bytes_told d ed;
       lengths = hl;
       sums = sums_exact cs ds (eqb-true (3 * length ds) (16 * length cs) (sym em ∙ not-false m hm));
       functions = sym ea ∙ ha;
@@ -125,9 +125,9 @@ module _ (r : Records) (cs fs vs bs ns ds : List ℕ) (g : Groups) where
     }
 
     -- the variables as one walk tests them
-    module _ (c : Total) (ec : c ≡ variables_total (records_of r)) (hc : not c.usable ≡ false) (vc : c.bytes ≡ length vs) (ha : not a ≡ false) (hb : not b ≡ false) where
+    module _ (c : ℕ) (ec : Some c ≡ variables_total (records_of r)) (vc : c ≡ length vs) (ha : not a ≡ false) (hb : not b ≡ false) where
       walked : fitting (block_sizes (curves_of cs)) ns ≡ true → Sound table lending
-      walked hl = let u = not-false _ hc in sound hl (sym (total_usable _ _ c ec) ∙ u) (sym vc ∙ total_bytes _ _ c ec u) (not-false a ha) (not-false b hb)
+      walked hl = sound hl (told_usable _ _ c ec) (sym vc ∙ told_some _ _ c ec) (not-false a ha) (not-false b hb)
 
       -- so all comes to the lengths: that each fits ..
       pub board_fitted : (k : Bool) → k ≡ fitting (block_sizes (curves_of cs)) ns → k ≡ whole
@@ -164,11 +164,11 @@ module _ (r : Records) (cs fs vs bs ns ds : List ℕ) (g : Groups) where
     pub sums_refuse : (b : Bool) → b ≡ eqb (3 * length ds) (16 * length cs) → not b ≡ true → false ≡ tested fresh
     sums_refuse b e h = either_way (λ ls. board_sums r cs fs vs bs ls ds g b e h)
 
-    pub variables_refuse : (c : Total) → c ≡ variables_total (records_of r) → not c.usable ≡ true → false ≡ tested fresh
-    variables_refuse c e h = either_way (λ ls. board_variables r cs fs vs bs ls ds g c e h)
+    pub variables_refuse : None ≡ variables_total (records_of r) → false ≡ tested fresh
+    variables_refuse e = either_way (λ ls. board_variables r cs fs vs bs ls ds g e)
 
-    pub values_refuse : (c : Total) → c ≡ variables_total (records_of r) → not c.usable ≡ false → (c.bytes ≡ length vs → ⊥) → false ≡ tested fresh
-    values_refuse c e h n = either_way (λ ls. board_values r cs fs vs bs ls ds g c e h n)
+    pub values_refuse : (n : ℕ) → Some n ≡ variables_total (records_of r) → (n ≡ length vs → ⊥) → false ≡ tested fresh
+    values_refuse n e h = either_way (λ ls. board_values r cs fs vs bs ls ds g n e h)
 
     pub functions_refuse : (b : Bool) → b ≡ usable_functions (functions_of fs) → not b ≡ true → false ≡ tested fresh
     functions_refuse b e h = either_way (λ ls. board_functions r cs fs vs bs ls ds g b e h)
@@ -176,27 +176,27 @@ module _ (r : Records) (cs fs vs bs ns ds : List ℕ) (g : Groups) where
     pub groups_refuse : (b : Bool) → b ≡ usable_groups r.count (groups_of g) → not b ≡ true → false ≡ tested fresh
     groups_refuse b e h = either_way (λ ls. board_groups r cs fs vs bs ls ds g b e h)
 
-    pub curves_refuse : (d : CurveTotal) → d ≡ curves_total (curves_of cs) → not d.usable ≡ true → false ≡ tested fresh
-    curves_refuse d e h = either_way (λ ls. board_curves r cs fs vs bs ls ds g d e h)
+    pub curves_refuse : None ≡ curves_total (curves_of cs) → false ≡ tested fresh
+    curves_refuse e = either_way (λ ls. board_curves r cs fs vs bs ls ds g e)
 
-    pub blocks_refuse : (d : CurveTotal) → d ≡ curves_total (curves_of cs) → not d.usable ≡ false → (d.bytes ≡ length bs → ⊥) → false ≡ tested fresh
-    blocks_refuse d e h n = either_way (λ ls. board_blocks r cs fs vs bs ls ds g d e h n)
+    pub blocks_refuse : (d : CurveTotal) → Some d ≡ curves_total (curves_of cs) → (d.bytes ≡ length bs → ⊥) → false ≡ tested fresh
+    blocks_refuse d e n = either_way (λ ls. board_blocks r cs fs vs bs ls ds g d e n)
 
   pub as_it_is : (fresh k : Bool) → fresh ≡ false → k ≡ whole r cs fs vs bs ns ds g → k ≡ tested fresh
   as_it_is fresh k e h = rw e h
 
   -- .. or, where they are to be full, that there is one for each block
-  module _ (d : CurveTotal) (a b m : Bool) (ed : d ≡ curves_total (curves_of cs)) (hd : not d.usable ≡ false) (vd : d.bytes ≡ length bs)
+  module _ (d : CurveTotal) (a b m : Bool) (ed : Some d ≡ curves_total (curves_of cs)) (vd : d.bytes ≡ length bs)
       (em : m ≡ eqb (3 * length ds) (16 * length cs)) (hm : not m ≡ false)
       (ea : a ≡ usable_functions (functions_of fs)) (eb : b ≡ usable_groups r.count (groups_of g))
-      (c : Total) (ec : c ≡ variables_total (records_of r)) (hc : not c.usable ≡ false) (vc : c.bytes ≡ length vs) (ha : not a ≡ false) (hb : not b ≡ false) where
+      (c : ℕ) (ec : Some c ≡ variables_total (records_of r)) (vc : c ≡ length vs) (ha : not a ≡ false) (hb : not b ≡ false) where
     full_fit : eqb d.blocks (length ns) ≡ fitting (block_sizes (curves_of cs)) full_lengths_lem
     full_fit =
-        let u : usable_curves (curves_of cs) ≡ true = sym (curves_usable _ _ d ed) ∙ not-false _ hd in
-        let n : d.blocks ≡ length (block_sizes (curves_of cs)) = ap (λ (y : CurveTotal). y.blocks) (curves_told _ _ d ed (not-false _ hd)) ∙ sym (block_count (curves_of cs)) in
+        let u : usable_curves (curves_of cs) ≡ true = told_usable _ _ d ed in
+        let n : d.blocks ≡ length (block_sizes (curves_of cs)) = ap (λ (y : CurveTotal). y.blocks) (told_some _ _ d ed) ∙ sym (block_count (curves_of cs)) in
         bool_eq _ _
         (λ h. rw (full_sizes (block_sizes (curves_of cs)) ns (sym (eqb-true _ _ h) ∙ n)) (curves_fit (curves_of cs) u))
         (λ h. eq-eqb d.blocks (length ns) (n ∙ sym (fit_count (block_sizes (curves_of cs)) ns h)))
 
     pub board_freshable : (fresh : Bool) → fresh ≡ true → eqb d.blocks (length ns) ≡ tested fresh
-    board_freshable fresh e = rw e (board_fitted r cs fs vs bs full_lengths_lem ds g d a b m ed hd vd em hm ea eb c ec hc vc ha hb _ full_fit)
+    board_freshable fresh e = rw e (board_fitted r cs fs vs bs full_lengths_lem ds g d a b m ed vd em hm ea eb c ec vc ha hb _ full_fit)

