@@ -9,12 +9,10 @@ use lib.ListN.{length, drop}
 use borrow.Author.Tests.{lt-ltb, le-ltb, eq-eqb, ne_eqb, ltb-false}
 use Rattle.bsmp.specs.Base.{byte_at, word_at}
 use Rattle.bsmp.specs.Board.{Layout}
-use Rattle.bsmp.specs.Codes.{command_of}
+use Rattle.bsmp.specs.Codes.{command_of, Check, Pass, Fail}
 use Rattle.bsmp.specs.Message.{check, form_tests, judge}
 use Rattle.bsmp.specs.declared.WireError.TheVariants.{Malformed}
 use Rattle.bsmp.specs.declared.Command.{Command}
-use Rattle.bsmp.specs.declared.Check.{Check}
-use Rattle.bsmp.specs.declared.Check.TheVariants.{Pass, Fail}
 use Rattle.bsmp.proofs.Bools.{or_false}
 use Rattle.bsmp.proofs.Chain.{first_next, first_stop, first_end, clear, clear_at, first_case}
 use Rattle.bsmp.proofs.Accepted.{fail_no}
