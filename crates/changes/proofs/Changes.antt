@@ -104,11 +104,7 @@ pub all_kept : (l : Layout) (x : Lent) → LeftAs l (held l x) Keep x
 all_kept l x = stays l (held l x) x refl
 
 module _ (l : Layout) (x : Lent) (z : SoundBoard l x) where
-  -- a change that leaves all as it was, one of the values alone, one of a block and its length, one of the sums, and one of the made groups
-  kept : ChangedBy l x nothing Keep x
-  unfolding after
-  kept = record { leaves = all_kept l x; fit = z.lengths.fit }
-
+  -- a change of the values alone, one of a block and its length, one of the sums, and one of the made groups
   values_edited : (op : Operation) (is : List VariableNumber) (ps : List (List ℕ)) (vs : List ℕ)
       → cut l.sizes vs ≡ edited op is ps (cut l.sizes x.values) → ChangedBy l x (edit op is ps) Keep (lent_values x vs)
   unfolding after
@@ -200,7 +196,3 @@ module _ (l : Layout) (x : Lent) (z : SoundBoard l x) where
         by : (gs : List ℕ) → x.groups ≡ gs → ChangedBy l x (regroup []) (removal gs) x
         by [] q = groups_made Keep [] q (λ f. let z : ◌≡◌ {A = ℕ} 0 1 = cc in absurd (omega arith))
         by (g ∷ gs) q = groups_made Remove [] refl (λ f. rw q (omega arith))
-
-    -- all others
-    pub nothing_changed : (c : Command) → k ≡ c → (line l x.groups p c).change ≡ nothing → Changed Keep x
-    nothing_changed c e h = rw (e, h) kept

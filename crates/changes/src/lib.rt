@@ -6,13 +6,13 @@ ghost use Rattle.bsmp.specs.Base.{cut};
 ghost use Rattle.bsmp.specs.Message.{variable_at, line, edited};
 ghost use Rattle.sets.specs.Promises.{Sound};
 ghost use Rattle.parts.specs.Parts.{Passed};
-ghost use Rattle.records.specs.Lending.{lent};
-ghost use Rattle.judging.specs.Judging.{lent_layout, SoundBoard};
+ghost use Rattle.judging.specs.Judging.{layout_in, lent_in, SameStores, SoundBoard};
 ghost use Rattle.variables.specs.Fits.{OneFits};
 ghost use Rattle.changes.specs.Changes.{removal, ChangedBy};
 ghost use Rattle.changes.specs.declared.Regroup.TheVariants.{Keep};
 
 use bsmp::{Command, Operation};
+use judging::{Layout, Stores};
 
 // What a message makes of the made groups. Where none are made there are none to remove, and they are kept.
 #[derive(Clone, Copy)]
@@ -23,6 +23,7 @@ pub enum Regroup {
 }
 
 // All made groups are removed.
+#[tactic(auto, using(crate::proofs::Changes::none_removed, crate::proofs::Changes::all_removed))]
 fn removal(groups: &[u64]) -> Regroup
     ensures { result ≡ removal groups.now }
 {
@@ -52,61 +53,68 @@ fn change_one(
 }
 
 // Carries out a command that passed its tests: changes the stores, the lengths and the sums, and tells what becomes of the made groups.
+#[tactic(auto, unfolding(bsmp::specs::Message::line, bsmp::specs::Message::after))]
 pub fn change(
     command: Command,
-    sizes: &[u8],
-    writable: u64,
-    curves: &[u32],
-    functions: &[u8],
+    layout: &Layout,
     groups: &[u64],
-    values: &mut [u8],
-    blocks: &mut [u8],
-    lengths: &mut [u16],
-    sums: &mut [u8],
+    stores: &mut Stores,
     payload: &[u8],
 ) -> Regroup
-    requires sound_board { SoundBoard (lent_layout sizes.now writable curves.now functions.now) (lent values.old blocks.old lengths.old sums.old groups.now) }
-    requires passed { Passed (lent_layout sizes.now writable curves.now functions.now) groups.now payload.now command }
-    ensures { let l = lent_layout sizes.now writable curves.now functions.now in
-        let x = lent values.old blocks.old lengths.old sums.old groups.now in
-        let y = lent values.new blocks.new lengths.new sums.new groups.now in
+    requires sound_board { SoundBoard (layout_in layout.now) (lent_in stores.old groups.now) }
+    requires passed { Passed (layout_in layout.now) groups.now payload.now command }
+    ensures same_stores { SameStores stores.old stores.new }
+    ensures changed { let l = layout_in layout.now in
+        let x = lent_in stores.old groups.now in
+        let y = lent_in stores.new groups.now in
         ChangedBy l x (line l x.groups payload.now command).change result y }
 {
+    let sizes = layout.sizes;
+    let writable = layout.writable;
     match command {
-        Command::WriteVariable => change_one(sizes, values, Operation::Replace, payload, 1),
+        Command::WriteVariable => {
+            change_one(sizes, stores.values, Operation::Replace, payload, 1)
+        }
         Command::WriteGroup => {
             let op = Operation::Replace;
-            groups::change(sizes, writable, groups, values, op, payload, 1);
+            groups::change(sizes, writable, groups, stores.values, op, payload, 1);
             Regroup::Keep
         }
-        Command::MaskVariable => change_one(sizes, values, Operation::of(payload[1]), payload, 2),
+        Command::MaskVariable => {
+            let op = Operation::from(payload[1]);
+            change_one(sizes, stores.values, op, payload, 2)
+        }
         Command::MaskGroup => {
-            let op = Operation::of(payload[1]);
-            groups::change(sizes, writable, groups, values, op, payload, 2);
+            let op = Operation::from(payload[1]);
+            groups::change(sizes, writable, groups, stores.values, op, payload, 2);
             Regroup::Keep
         }
-        Command::WriteRead => change_one(sizes, values, Operation::Replace, payload, 2),
+        Command::WriteRead => change_one(sizes, stores.values, Operation::Replace, payload, 2),
         Command::MakeGroup => Regroup::Make(sets::set_of(payload)),
         Command::RemoveGroups => removal(groups),
         Command::WriteBlock => {
-            curves::change(curves, blocks, lengths, payload);
+            curves::change(layout.curves, stores.blocks, stores.lengths, payload);
             Regroup::Keep
         }
         Command::RenewSum => {
-            sums::renew(curves, blocks, lengths, sums, parts::curve_at(payload, 0));
+            let curve = parts::curve_at(payload, 0);
+            // Lent as they are to be changed: two of them can't be lent to be read out of what is lent itself.
+            let blocks = &mut *stores.blocks;
+            let lengths = &mut *stores.lengths;
+            sums::renew(layout.curves, blocks, lengths, stores.sums, curve);
             Regroup::Keep
         }
-        Command::Version => Regroup::Keep,
-        Command::ListVariables => Regroup::Keep,
-        Command::ListGroups => Regroup::Keep,
-        Command::ShowGroup => Regroup::Keep,
-        Command::ListCurves => Regroup::Keep,
-        Command::ReadSum => Regroup::Keep,
-        Command::ListFunctions => Regroup::Keep,
-        Command::ReadVariable => Regroup::Keep,
-        Command::ReadGroup => Regroup::Keep,
-        Command::ReadBlock => Regroup::Keep,
-        Command::RunFunction => Regroup::Keep,
-        Command::Unknown => Regroup::Keep,
+        Command::Version
+        | Command::ListVariables
+        | Command::ListGroups
+        | Command::ShowGroup
+        | Command::ListCurves
+        | Command::ReadSum
+        | Command::ListFunctions
+        | Command::ReadVariable
+        | Command::ReadGroup
+        | Command::ReadBlock
+        | Command::RunFunction
+        | Command::Unknown => Regroup::Keep,
     }
 }
