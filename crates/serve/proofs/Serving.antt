@@ -1,4 +1,5 @@
 -- A message's work: its two ends, what is said to it, and what the definition gives. Assumes nothing.
+use Rattle.std.specs.Prelude.{Ok, Err}
 use mathlib.Core.Path.{◌≡◌, refl, ap, ◌∙◌, subst}
 use mathlib.Core.Bool.{Bool, true, false}
 use mathlib.Core.List.{List}
@@ -7,18 +8,16 @@ use borrow.Rule.Slice.PartMut.{mid_of}
 use lib.ListN.{length}
 use Rattle.bsmp.specs.Board.{Layout, State, with_groups}
 use Rattle.bsmp.specs.Base.{byte_at}
-use Rattle.bsmp.specs.Codes.{command_of, error_code}
+use Rattle.bsmp.specs.Codes.{command_of, error_code, Check, Pass, Fail}
 use Rattle.bsmp.specs.Message.{Answer, say, tell, show, attest, call, Line, line, asked, judge, Said, spoken, said, state_after, carried, handled}
 use Rattle.bsmp.specs.Store.{Lent, held}
 use Rattle.bsmp.specs.declared.WireError.{WireError}
 use Rattle.bsmp.specs.declared.Command.{Command}
-use Rattle.bsmp.specs.declared.Check.{Check}
-use Rattle.bsmp.specs.declared.Check.TheVariants.{Pass, Fail}
 use Rattle.copies.proofs.Put.{mid_rest}
 use Rattle.parts.specs.Parts.{Passed}
-use Rattle.records.specs.Lending.{lent}
 use Rattle.variables.proofs.One.{sound_kept}
-use Rattle.judging.specs.Judging.{SoundBoard}
+use Rattle.judging.specs.Judging.{lent_in, SameStores, SoundBoard}
+use Rattle.judging.specs.declared.Stores.{Stores}
 use Rattle.judging.proofs.Judging.{judged_long, judged_passed}
 use Rattle.changes.specs.Changes.{regrouped, LeftAs, ChangedBy}
 use Rattle.changes.specs.declared.Regroup.{Regroup}
@@ -46,29 +45,26 @@ module _ (l : Layout) (gs m : List ℕ) (k : Command) (v : Check) where
   judged_named h = record { command = h.command; names = run_named l gs m k v h.judgement h.command }
 
 -- carried out: the board is as sound after a change of its stores
-module _ (l : Layout) (m : List ℕ) (k : Command) (v : Check) (vs bs ls ds gs : List ℕ) (h : SoundBoard l (lent vs bs ls ds gs)) where
-  abbrev x : Lent
-  x = lent vs bs ls ds gs
-
-  pub carried_pass : (g : Regroup) (vs' bs' ls' ds' : List ℕ) → length vs' ≡ length vs → length bs' ≡ length bs → length ds' ≡ length ds → Judged l gs m k v → v ≡ Pass
-      → ChangedBy l x (line l gs (mid_of 3 (length m - 3) m) k).change g (lent vs' bs' ls' ds' gs) → CarriedOut l m v x g (lent vs' bs' ls' ds' gs)
+module _ (l : Layout) (m : List ℕ) (k : Command) (v : Check) (s : Stores) (gs : List ℕ) (h : SoundBoard l (lent_in s gs)) where
+  pub carried_pass : (g : Regroup) (s' : Stores) → SameStores s s' → Judged l gs m k v → v ≡ Pass
+      → ChangedBy l (lent_in s gs) (line l gs (mid_of 3 (length m - 3) m) k).change g (lent_in s' gs) → CarriedOut l m v (lent_in s gs) g (lent_in s' gs)
   unfolding state_after
-  carried_pass g vs' bs' ls' ds' a b d j e w = record {
+  carried_pass g s' a j e w = record {
     leaves = rw e (ChangedBy.leaves (rw (j.command, mid_rest 3 m) at w));
     sound = record {
-      variables = sound_kept l.sizes vs vs' h.variables a;
+      variables = sound_kept l.sizes s.values.now s'.values.now h.variables a.values_long;
       sizes = h.sizes;
-      curves = record { usable = h.curves.usable; exact = b ∙ h.curves.exact };
+      curves = record { usable = h.curves.usable; exact = a.blocks_long ∙ h.curves.exact };
       lengths = record { fit = w.fit };
-      sums = record { exact = d ∙ h.sums.exact };
+      sums = record { exact = a.sums_long ∙ h.sums.exact };
       functions = h.functions;
       groups = h.groups;
     };
   }
 
-  pub carried_fail : (e : WireError) → v ≡ Fail e → CarriedOut l m v x Keep x
+  pub carried_fail : (e : WireError) → v ≡ Fail e → CarriedOut l m v (lent_in s gs) Keep (lent_in s gs)
   unfolding state_after
-  carried_fail e q = record { leaves = rw q (all_kept l x); sound = h }
+  carried_fail e q = record { leaves = rw q (all_kept l (lent_in s gs)); sound = h }
 
 -- what is said to it, where an answer is due
 module _ (l : Layout) (gs m : List ℕ) (v : Check) (s : State) (r : List ℕ) (at : ℕ) (t : Spoken) where
@@ -92,8 +88,8 @@ spoken_alike (call g i) s gs = refl
 
 said_alike : (l : Line) (v : Check) (s : State) (gs : List ℕ) → said l v s ≡ said l v (with_groups s gs)
 unfolding said
-said_alike l (Fail x) s gs = refl
-said_alike l Pass s gs = spoken_alike l.answer s gs
+said_alike l (Err x) s gs = refl
+said_alike l (Ok _) s gs = spoken_alike l.answer s gs
 
 -- what is said where an answer is due, and where none is
 module _ (due : Bool) (x : Said) (r : List ℕ) (at : ℕ) (s : Spoken) (r' : List ℕ) where

@@ -9,14 +9,12 @@ use lib.ListN.{length, drop, length-drop}
 use lib.Seq.{get_or-drop}
 use Rattle.bsmp.specs.Base.{byte_at}
 use Rattle.bsmp.specs.Board.{Layout, State, function}
-use Rattle.bsmp.specs.Codes.{command_of}
+use Rattle.bsmp.specs.Codes.{command_of, Check, Pass, Fail}
 use Rattle.bsmp.specs.Message.{function_at, line, Said, replies, runs, spoken, said}
 use Rattle.bsmp.specs.declared.FunctionNumber.{FunctionNumber}
 use Rattle.bsmp.specs.declared.WireError.{WireError}
 use Rattle.bsmp.specs.declared.Command.{Command}
 use Rattle.bsmp.specs.declared.Command.TheVariants.{RunFunction}
-use Rattle.bsmp.specs.declared.Check.{Check}
-use Rattle.bsmp.specs.declared.Check.TheVariants.{Pass, Fail}
 use Rattle.copies.proofs.Put.{put_nil, mid_rest}
 use Rattle.judging.specs.Judging.{Judgement}
 use Rattle.judging.proofs.Judging.{judged_passed}

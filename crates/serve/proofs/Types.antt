@@ -6,13 +6,12 @@ use Prim.Native.Nat.{ℕ, ◌≤◌}
 use lib.ListN.{length, drop}
 use Rattle.bsmp.specs.Base.{every, byte_at, first}
 use Rattle.bsmp.specs.Board.{Layout, State, is_type, set_of}
-use Rattle.bsmp.specs.Codes.{command_of}
+use Rattle.bsmp.specs.Codes.{command_of, Pass, Fail}
 use Rattle.bsmp.specs.Message.{curve_list, function_list, Line, tests_of, line, check, form_tests, judge, asked, carried, handled}
 use Rattle.bsmp.specs.Store.{Lent, held}
 use Rattle.bsmp.specs.declared.Command.{Command}
 use Rattle.bsmp.specs.declared.Command.TheVariants.{Version, ListVariables, ListGroups, ShowGroup, ListCurves, ReadSum, ListFunctions, ReadVariable, ReadGroup, WriteVariable, WriteGroup}
 use Rattle.bsmp.specs.declared.Command.TheVariants.{MaskVariable, MaskGroup, WriteRead, MakeGroup, RemoveGroups, ReadBlock, WriteBlock, RenewSum, RunFunction, Unknown}
-use Rattle.bsmp.specs.declared.Check.TheVariants.{Pass, Fail}
 use Rattle.records.specs.Lending.{writable_marks}
 use Rattle.judging.specs.Judging.{lent_layout, SoundBoard}
 use Rattle.changes.specs.Changes.{LeftAs}

@@ -2,20 +2,19 @@
 use Rattle.std.specs.Prelude.{◌≡◌, Bool, true, false, List, ℕ, ◌≤◌, ◌<◌, length, drop}
 use Rattle.bsmp.specs.Base.{every, byte_at}
 use Rattle.bsmp.specs.Board.{Layout, State, is_type}
-use Rattle.bsmp.specs.Codes.{command_of}
+use Rattle.bsmp.specs.Codes.{command_of, Check, Pass}
 use Rattle.bsmp.specs.Message.{line, asked, said, spoken, state_after, handled}
 use Rattle.bsmp.specs.Store.{Lent, held}
 use Rattle.bsmp.specs.declared.Command.{Command}
 use Rattle.bsmp.specs.declared.Command.TheVariants.{Version, ListVariables, ListGroups, ShowGroup, ListCurves, ReadSum, ListFunctions, ReadVariable, ReadGroup, WriteVariable, WriteGroup}
 use Rattle.bsmp.specs.declared.Command.TheVariants.{MaskVariable, MaskGroup, WriteRead, MakeGroup, RemoveGroups, ReadBlock, WriteBlock, RenewSum, RunFunction, Unknown}
-use Rattle.bsmp.specs.declared.Check.{Check}
-use Rattle.bsmp.specs.declared.Check.TheVariants.{Pass}
 use Rattle.records.specs.Lending.{writable_marks}
 use Rattle.judging.specs.Judging.{lent_layout, SoundBoard, Judgement}
 use Rattle.changes.specs.Changes.{LeftAs}
 use Rattle.changes.specs.declared.Regroup.{Regroup}
 use Rattle.answers.specs.Answers.{spoken_of, Spoke}
 use Rattle.answers.specs.declared.Spoken.{Spoken}
+use Rattle.serve.specs.declared.Columns.{Columns}
 
 -- whether a command looks at which variables are writable: those that list or write variables, and those that look into a group, since
 -- groups 1 and 2 are the read-only variables and the writable ones
@@ -54,6 +53,10 @@ pub record MarksFor (k : Command) (types : List ℕ) (w : ℕ) : Type 0 where
 -- the layout of what is lent, with types in the place of marks
 abbrev pub typed_layout : (sizes types curves functions : List ℕ) → Layout
 typed_layout ns ws cs fs = lent_layout ns (writable_marks ws) cs fs
+
+-- the same of the columns that are lent
+abbrev pub columns_in : Columns → Layout
+columns_in c = typed_layout c.sizes.now c.types.now c.curves.now c.functions.now
 
 -- a message's command and its judgement under some busy marks: what carrying it out and answering it lean on
 pub record Judged (l : Layout) (gs m : List ℕ) (k : Command) (v : Check) : Type 0 where

@@ -1,11 +1,8 @@
 -- `serve` meets its contract. Assumes nothing.
-use Rattle.serve.proofs.Types.{sound_any, typed_served}
-use Rattle.serve.proofs.Serving.{judged, served}
+use Rattle.serve.proofs.Types.{typed_served}
+use Rattle.serve.proofs.Serving.{served}
 use borrow.Author.Rules.{rules}
 use Rattle.serve.proofs.serve.Goals as goal
 
-pub fulfil-requires : goal.fulfil-requires
-fulfil-requires c = record { fact = search (sound_any, rules); judged = search (judged, rules) }
-
-pub returns : goal.returns
-returns c = search (typed_served, served, rules)
+pub returns-clause-served : goal.returns-clause-served
+returns-clause-served c = search (typed_served, served, rules)
