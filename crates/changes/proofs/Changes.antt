@@ -9,7 +9,7 @@ use Rattle.rfc1321.specs.Md5.{digest}
 use Rattle.bsmp.specs.Base.{cut, byte_at, word_at}
 use Rattle.bsmp.specs.Codes.{operation_of}
 use Rattle.bsmp.specs.Board.{Layout, State, block_sizes, fitting, size_of, members, with_values, with_blocks, with_lengths, with_sums, with_groups, contents_of}
-use Rattle.bsmp.specs.Message.{nothing, edit, fill, renew, regroup, variable_at, group_id_at, curve_at, line, edited, filled, after}
+use Rattle.bsmp.specs.Message.{edit, fill, renew, regroup, variable_at, group_id_at, curve_at, line, edited, filled, after}
 use Rattle.bsmp.specs.Store.{Lent, held}
 use Rattle.bsmp.specs.declared.VariableNumber.{VariableNumber}
 use Rattle.bsmp.specs.declared.CurveNumber.{CurveNumber}
