@@ -23,7 +23,7 @@ fn block_number(payload: &[u8]) -> usize
 }
 
 // The curve that a payload names, if it exists.
-fn known(curves: &[u32], payload: &[u8]) -> Result<CurveNumber, WireError>
+fn existing(curves: &[u32], payload: &[u8]) -> Result<CurveNumber, WireError>
     requires { 0 < length payload.now }
     ensures { let c = curve_at payload.now 0 in
         result ≡ cond (ltb c.0 (length (curves_of curves.now))) (Ok c) (Err BadId) }
@@ -50,7 +50,7 @@ pub fn check_read(curves: &[u32], payload: &[u8]) -> Result<(), WireError>
     if payload.len() != 3 {
         return Err(WireError::BadSize);
     }
-    let c = known(curves, payload)?;
+    let c = existing(curves, payload)?;
     let curve = records::curve_at(curves, c);
     if !has_block(curve, payload) {
         return Err(WireError::BadValue);
@@ -66,7 +66,7 @@ pub fn check_write(curves: &[u32], payload: &[u8]) -> Result<(), WireError>
     if payload.len() < 3 {
         return Err(WireError::BadSize);
     }
-    let c = known(curves, payload)?;
+    let c = existing(curves, payload)?;
     let curve = records::curve_at(curves, c);
     if !has_block(curve, payload) {
         return Err(WireError::BadValue);
@@ -161,7 +161,7 @@ pub fn check_sum(curves: &[u32], payload: &[u8]) -> Result<(), WireError>
     if payload.len() != 1 {
         return Err(WireError::BadSize);
     }
-    known(curves, payload)?;
+    existing(curves, payload)?;
     Ok(())
 }
 

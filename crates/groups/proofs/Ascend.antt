@@ -53,11 +53,3 @@ module _ (ids : List ℕ) (count : ℕ) where
     unknown = sym (or-false s.unknown) ∙ (rw (drop_of_length-le ids h) at q.unknowns);
     ascends = sym (and-true s.ascending) ∙ (rw (drop_of_length-le ids h) at q.ascends);
   }
-
-  -- what it found, for the chain of tests
-  module _ (s : Ids) (q : Looked ids count s) (b : Bool) where
-    pub unknown_told : s.unknown ≡ b → some (λ i. not (ltb i count)) ids ≡ b
-    unknown_told h = sym q.unknown ∙ h
-
-    pub ascending_told : s.ascending ≡ b → ascending ids ≡ b
-    ascending_told h = sym q.ascends ∙ h

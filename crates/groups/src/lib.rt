@@ -2,25 +2,30 @@
 // also those that it doesn't look at, and no check sees a value.
 #![tactic(auto)]
 
-ghost use Rattle.std.specs.Prelude.{◌≡◌, false, [], ◌∷◌, ◌++◌, map, ◌+◌, ◌≤◌, ◌<◌, length, drop};
+ghost use Rattle.std.specs.Prelude.{◌≡◌, false, cond, Ok, Err, [], ◌∷◌, ◌++◌, map, ◌+◌, ◌≤◌, ◌<◌, length, drop};
 ghost use Rattle.bsmp.specs.Base.{some, cut, first};
 ghost use Rattle.bsmp.specs.Board.{size_of, marked, members, writable_group, group_count};
 ghost use Rattle.bsmp.specs.Message.{group_id_at, no_group, listed, group_list, writes_group, group_members, last_tests, check, edited, values_of};
-ghost use Rattle.bsmp.specs.declared.Check.TheVariants.{Pass, Fail};
+ghost use Rattle.bsmp.specs.Codes.{Pass, Fail};
+ghost use Rattle.bsmp.specs.declared.WireError.TheVariants.{BadId};
 ghost use Rattle.bsmp.specs.declared.Command.TheVariants.{ShowGroup, ReadGroup, WriteGroup, MaskGroup, MakeGroup};
 ghost use Rattle.parts.specs.Parts.{variables_only, PayloadAt};
 ghost use Rattle.sets.specs.Promises.{Sound, GroupSet};
 ghost use Rattle.groups.specs.Promises.{GroupKnown, GroupFits, Looked};
 
-use bsmp::{Check, GroupNumber, Operation, WireError};
+use bsmp::{GroupNumber, Operation, WireError};
 
-// Whether the group named first doesn't exist: three always do.
-fn no_group(groups: &[u64], payload: &[u8]) -> bool
+// The group named first, if it exists: three always do.
+fn existing(groups: &[u64], payload: &[u8]) -> Result<GroupNumber, WireError>
     requires { 0 < length payload.now }
-    ensures { result ≡ no_group groups.now (group_id_at payload.now 0) }
+    ensures { let g = group_id_at payload.now 0 in
+        result ≡ cond (no_group groups.now g) (Err BadId) (Ok g) }
 {
-    let n = parts::group_at(payload, 0).0;
-    3 + groups.len() <= n
+    let g = parts::group_at(payload, 0);
+    if 3 + groups.len() <= g.0 {
+        return Err(WireError::BadId);
+    }
+    Ok(g)
 }
 
 // The set of the group named first.
@@ -32,6 +37,7 @@ fn named_set(writable: u64, groups: &[u64], payload: &[u8]) -> u64
 }
 
 // The tests that a write of the group named first must pass after the front.
+#[tactic(auto, using(crate::proofs::Known::bytes_are, crate::proofs::Known::marks_are), unfolding(bsmp::specs::Message::writes_group, bsmp::specs::Board::writable_group, bsmp::specs::Base::first))]
 fn writes(
     sizes: &[u8],
     writable: u64,
@@ -39,7 +45,7 @@ fn writes(
     payload: &[u8],
     front: usize,
     busy: u64,
-) -> Check
+) -> Result<(), WireError>
     requires sizes_len_bound { (length sizes.now ≤ 64) × (front ≤ 2) }
     requires group_known { GroupKnown groups.now payload.now }
     ensures { let l = variables_only sizes.now writable in
@@ -48,77 +54,97 @@ fn writes(
 {
     let set = named_set(writable, groups, payload);
     if payload.len() != front + members::set_bytes(sizes, set) {
-        return Check::Fail(WireError::BadSize);
+        return Err(WireError::BadSize);
     }
     let members = sets::declared(set, sizes.len());
-    if sets::group_writable(parts::group_at(payload, 0), members, writable) {
-        if sets::some_marked(members, busy) {
-            return Check::Fail(WireError::Busy);
-        }
-        return Check::Pass;
+    if !sets::group_writable(parts::group_at(payload, 0), members, writable) {
+        return Err(WireError::ReadOnly);
     }
-    Check::Fail(WireError::ReadOnly)
+    if sets::some_marked(members, busy) {
+        return Err(WireError::Busy);
+    }
+    Ok(())
 }
 
 // 06: a group to be shown.
-pub fn check_show(sizes: &[u8], writable: u64, groups: &[u64], payload: &[u8], busy: u64) -> Check
+#[tactic(auto, unfolding(bsmp::specs::Message::check, bsmp::specs::Message::line, bsmp::specs::Base::first))]
+pub fn check_show(
+    sizes: &[u8],
+    writable: u64,
+    groups: &[u64],
+    payload: &[u8],
+    busy: u64,
+) -> Result<(), WireError>
     requires { length sizes.now ≤ 64 }
     ensures { result ≡ check (variables_only sizes.now writable) groups.now busy payload.now ShowGroup }
 {
     if payload.len() != 1 {
-        return Check::Fail(WireError::BadSize);
+        return Err(WireError::BadSize);
     }
-    if no_group(groups, payload) {
-        return Check::Fail(WireError::BadId);
-    }
-    Check::Pass
+    existing(groups, payload)?;
+    Ok(())
 }
 
 // 12: a group to be read.
-pub fn check_read(sizes: &[u8], writable: u64, groups: &[u64], payload: &[u8], busy: u64) -> Check
+#[tactic(auto, using(crate::proofs::Known::read_are), unfolding(bsmp::specs::Message::check, bsmp::specs::Message::line, bsmp::specs::Base::first))]
+pub fn check_read(
+    sizes: &[u8],
+    writable: u64,
+    groups: &[u64],
+    payload: &[u8],
+    busy: u64,
+) -> Result<(), WireError>
     requires { length sizes.now ≤ 64 }
     ensures { result ≡ check (variables_only sizes.now writable) groups.now busy payload.now ReadGroup }
 {
     if payload.len() != 1 {
-        return Check::Fail(WireError::BadSize);
+        return Err(WireError::BadSize);
     }
-    if no_group(groups, payload) {
-        return Check::Fail(WireError::BadId);
-    }
+    existing(groups, payload)?;
     let read = sets::declared(named_set(writable, groups, payload), sizes.len());
     if sets::some_marked(read, busy) {
-        return Check::Fail(WireError::Busy);
+        return Err(WireError::Busy);
     }
-    Check::Pass
+    Ok(())
 }
 
 // 22: a group to be written.
-pub fn check_write(sizes: &[u8], writable: u64, groups: &[u64], payload: &[u8], busy: u64) -> Check
+#[tactic(auto, unfolding(bsmp::specs::Message::check, bsmp::specs::Message::line, bsmp::specs::Base::first))]
+pub fn check_write(
+    sizes: &[u8],
+    writable: u64,
+    groups: &[u64],
+    payload: &[u8],
+    busy: u64,
+) -> Result<(), WireError>
     requires { length sizes.now ≤ 64 }
     ensures { result ≡ check (variables_only sizes.now writable) groups.now busy payload.now WriteGroup }
 {
-    if payload.len() < 1 {
-        return Check::Fail(WireError::BadSize);
+    if payload.is_empty() {
+        return Err(WireError::BadSize);
     }
-    if no_group(groups, payload) {
-        return Check::Fail(WireError::BadId);
-    }
+    existing(groups, payload)?;
     writes(sizes, writable, groups, payload, 1, busy)
 }
 
 // 26: a group to be masked; the operation follows its number.
-pub fn check_mask(sizes: &[u8], writable: u64, groups: &[u64], payload: &[u8], busy: u64) -> Check
+#[tactic(auto, unfolding(bsmp::specs::Message::check, bsmp::specs::Message::line, bsmp::specs::Base::first))]
+pub fn check_mask(
+    sizes: &[u8],
+    writable: u64,
+    groups: &[u64],
+    payload: &[u8],
+    busy: u64,
+) -> Result<(), WireError>
     requires { length sizes.now ≤ 64 }
     ensures { result ≡ check (variables_only sizes.now writable) groups.now busy payload.now MaskGroup }
 {
     if payload.len() < 2 {
-        return Check::Fail(WireError::BadSize);
+        return Err(WireError::BadSize);
     }
-    if no_group(groups, payload) {
-        return Check::Fail(WireError::BadId);
-    }
+    existing(groups, payload)?;
     if bsmp::no_operation(payload[1]) {
-        return Check::Fail(WireError::Unsupported);
+        return Err(WireError::Unsupported);
     }
     writes(sizes, writable, groups, payload, 2, busy)
 }
@@ -134,6 +160,7 @@ struct Ids {
 
 impl Ids {
     // One walk finds both: an unknown ID counts first, wherever it stands.
+    #[tactic(auto, using(crate::proofs::Ascend::look_end))]
     fn of(ids: &[u8], count: usize) -> Ids
         ensures { Looked ids.now count result }
     {
@@ -142,45 +169,51 @@ impl Ids {
             ascending: true,
             least: 0,
         };
-        let mut i = 0;
-        while i < ids.len() {
-            let n = ids[i] as u16;
+        for id in ids {
+            let n = u16::from(*id);
             s = Ids {
-                unknown: s.unknown | (count <= n as usize),
+                unknown: s.unknown | (count <= usize::from(n)),
                 ascending: s.ascending & (s.least <= n),
                 least: n + 1,
             };
-            i += 1;
         }
         s
     }
 }
 
 // 30: a group to be made; its set is `sets::set_of` of the payload. Five fit.
-pub fn check_make(sizes: &[u8], writable: u64, groups: &[u64], payload: &[u8], busy: u64) -> Check
+#[tactic(auto, unfolding(bsmp::specs::Message::check, bsmp::specs::Message::line, bsmp::specs::Base::first))]
+pub fn check_make(
+    sizes: &[u8],
+    writable: u64,
+    groups: &[u64],
+    payload: &[u8],
+    busy: u64,
+) -> Result<(), WireError>
     requires { length sizes.now ≤ 64 }
     ensures { result ≡ check (variables_only sizes.now writable) groups.now busy payload.now MakeGroup }
 {
-    if payload.len() < 1 {
-        return Check::Fail(WireError::BadSize);
+    if payload.is_empty() {
+        return Err(WireError::BadSize);
     }
     if sizes.len() < payload.len() {
-        return Check::Fail(WireError::BadSize);
+        return Err(WireError::BadSize);
     }
     let ids = Ids::of(payload, sizes.len());
     if ids.unknown {
-        return Check::Fail(WireError::BadId);
+        return Err(WireError::BadId);
     }
-    if ids.ascending {
-        if 5 <= groups.len() {
-            return Check::Fail(WireError::Full);
-        }
-        return Check::Pass;
+    if !ids.ascending {
+        return Err(WireError::BadValue);
     }
-    Check::Fail(WireError::BadValue)
+    if 5 <= groups.len() {
+        return Err(WireError::Full);
+    }
+    Ok(())
 }
 
 // 22 and 26: each member of the group named first, changed by its part of the payload after the front.
+#[tactic(auto, using(sets::proofs::Group::group_edit))]
 pub fn change(
     sizes: &[u8],
     writable: u64,
@@ -243,6 +276,7 @@ pub fn show(
 }
 
 // A group's byte in the list: its top bit on if it's writable, and the member count.
+#[tactic(auto, using(crate::proofs::Known::marks_are), unfolding(bsmp::specs::Board::writable_group))]
 fn list_byte(sizes: &[u8], writable: u64, groups: &[u64], g: GroupNumber) -> u8
     requires { (length sizes.now ≤ 64) × (g.0 < group_count groups.now) }
     ensures { let l = variables_only sizes.now writable in
@@ -251,10 +285,7 @@ fn list_byte(sizes: &[u8], writable: u64, groups: &[u64], g: GroupNumber) -> u8
     let set = sets::group_set(writable, groups, g);
     let members = sets::declared(set, sizes.len());
     let count = sets::count_marks(members);
-    if sets::group_writable(g, members, writable) {
-        return 128 + count as u8;
-    }
-    count as u8
+    128 * u8::from(sets::group_writable(g, members, writable)) + count as u8
 }
 
 // 05: a byte per group.
@@ -265,10 +296,8 @@ pub fn list(sizes: &[u8], writable: u64, groups: &[u64], reply: &mut [u8], at: u
         PayloadAt reply.old at (group_list l groups.now) result reply.new }
 {
     let count = 3 + groups.len();
-    let mut g = 0;
-    while g < count {
+    for g in 0..count {
         reply[at + g] = list_byte(sizes, writable, groups, GroupNumber(g));
-        g += 1;
     }
     count
 }

@@ -24,7 +24,7 @@ fn size_of(sizes: &[u8], i: VariableNumber) -> usize
 }
 
 // The variable that the payload's byte at a place names, if it exists.
-fn known(sizes: &[u8], payload: &[u8], at: usize) -> Result<VariableNumber, WireError>
+fn existing(sizes: &[u8], payload: &[u8], at: usize) -> Result<VariableNumber, WireError>
     requires { at < length payload.now }
     ensures { let i = variable_at payload.now at in
         result ≡ cond (ltb i.0 (length sizes.now)) (Ok i) (Err BadId) }
@@ -74,7 +74,7 @@ pub fn check_read(sizes: &[u8], writable: u64, payload: &[u8], busy: u64) -> Res
     if payload.len() != 1 {
         return Err(WireError::BadSize);
     }
-    let i = known(sizes, payload, 0)?;
+    let i = existing(sizes, payload, 0)?;
     if sets::is_marked(busy, i) {
         return Err(WireError::Busy);
     }
@@ -89,7 +89,7 @@ pub fn check_write(sizes: &[u8], writable: u64, payload: &[u8], busy: u64) -> Re
     if payload.is_empty() {
         return Err(WireError::BadSize);
     }
-    let i = known(sizes, payload, 0)?;
+    let i = existing(sizes, payload, 0)?;
     writes(sizes, writable, payload, i, 1, sets::is_marked(busy, i))
 }
 
@@ -101,7 +101,7 @@ pub fn check_mask(sizes: &[u8], writable: u64, payload: &[u8], busy: u64) -> Res
     if payload.len() < 2 {
         return Err(WireError::BadSize);
     }
-    let i = known(sizes, payload, 0)?;
+    let i = existing(sizes, payload, 0)?;
     if bsmp::no_operation(payload[1]) {
         return Err(WireError::Unsupported);
     }
@@ -121,8 +121,8 @@ pub fn check_write_read(
     if payload.len() < 2 {
         return Err(WireError::BadSize);
     }
-    let written = known(sizes, payload, 0)?;
-    let read = known(sizes, payload, 1)?;
+    let written = existing(sizes, payload, 0)?;
+    let read = existing(sizes, payload, 1)?;
     writes(
         sizes,
         writable,

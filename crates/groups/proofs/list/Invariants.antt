@@ -1,5 +1,4 @@
 -- `list` meets its contract. Assumes nothing.
-use Prim.Native.Nat.{◌-◌}
 use Rattle.bsmp.specs.Board.{group_count}
 use Rattle.bsmp.specs.Message.{group_list}
 use Rattle.parts.specs.Parts.{variables_only}
@@ -8,6 +7,3 @@ use Rattle.groups.proofs.list.Given as goal
 
 abbrev pub invariant-loop-g : goal.invariant-loop-g
 invariant-loop-g l = Listing (group_list (variables_only l.sizes l.writable) l.groups) (group_count l.groups) l.initial.reply l.at l.g l.reply
-
-abbrev pub decreases-loop-g : goal.decreases-loop-g
-decreases-loop-g l = l.count - l.g
