@@ -5,7 +5,8 @@ use Prim.Native.Nat.{ℕ, ◌+◌, ◌-◌, ◌/◌, ◌%◌, ◌≤◌, ◌<◌
 use native.Mathlib.Nat.{add-sub_cancel_left}
 use native.Mathlib.Omega.{arith}
 use borrow.Rule.Slice.PartMut.{mid_of}
-use lib.ListN.{length, set, length-set, length-append}
+use lib.ListN.{length, set, get_or, length-set, length-append}
+use Rattle.std.specs.Int.{to_be_bytes, w16}
 use Rattle.bsmp.specs.Base.{sum}
 use Rattle.bsmp.specs.Message.{message_of}
 use Rattle.bsmp.specs.Packet.{packed, frame, checksum, reply}
@@ -28,10 +29,12 @@ put_shown r v =
     let z : 0 + length v ≡ length v = omega arith in
     rw z
 
--- the sum of head and payload, from the payload's; and the head, stored byte by byte
+-- the sum of head and payload, from the payload's, each step modulo 256; and the head, stored byte by byte
 module _ (r : List ℕ) (to code n : ℕ) (g : n ≤ 4099) (h : 4104 ≤ length r) where
-  closing : (s : ℕ) → s ≡ sum (mid_of 4 (4 + n - 4) r) % 256
-      → (256 - (s + to + code + n / 256 + n % 256) % 256) % 256 ≡ checksum (to ∷ code ∷ n / 256 ∷ n % 256 ∷ part r 4 n)
+  abbrev after_sum : ℕ → ℕ
+  after_sum s = (((s + to) % 256 + code) % 256 + n / 256) % 256 + n % 256
+
+  closing : (s : ℕ) → s ≡ sum (mid_of 4 (4 + n - 4) r) % 256 → (256 - after_sum s % 256) % 256 ≡ checksum (to ∷ code ∷ n / 256 ∷ n % 256 ∷ part r 4 n)
   unfolding sum part
   closing s e =
       let f : s ≡ sum (part r 4 n) % 256 = rw (← add-sub_cancel_left 4 n) e in
@@ -45,15 +48,18 @@ module _ (r : List ℕ) (to code n : ℕ) (g : n ≤ 4099) (h : 4104 ≤ length 
       ∙ put_set (set r 0 to) 1 code _ (simp length-set (omega arith))
       ∙ put_set r 0 to _ (omega arith)
 
-  pub closed : (s : ℕ) → s ≡ sum (mid_of 4 (4 + n - 4) r) % 256
-      → set (set (set (set (set r 0 to) 1 code) 2 (n / 256)) 3 (n % 256)) (4 + n) ((256 - (s + to + code + n / 256 + n % 256) % 256) % 256)
-      ≡ put r 0 (packed to (message_of code (part r 4 n)))
-  closed s e =
+  pub closed : (s : ℕ) (bs : List ℕ) → s ≡ sum (mid_of 4 (4 + n - 4) r) % 256 → bs ≡ to_be_bytes w16 n
+      → (x : ℕ) → x ≡ (256 - ((((s + to) % 256 + code) % 256 + get_or bs 0 0) % 256 + get_or bs 1 0) % 256) % 256
+      → set (set (set (set (set r 0 to) 1 code) 2 (get_or bs 0 0)) 3 (get_or bs 1 0)) (4 + n) x ≡ put r 0 (packed to (message_of code (part r 4 n)))
+  closed s bs e d x k =
       let hdr : List ℕ = to ∷ code ∷ n / 256 ∷ n % 256 ∷ [] in
-      let k : 4 + n < length r = omega arith in
+      let o : 4 + n < length r = omega arith in
       let l : length (part r 4 n) ≡ n = length_part r 4 n (omega arith) in
       let w : n / 256 % 256 ≡ n / 256 = omega arith in
-      rw (head, closing s e, put_closed r hdr 4 n _ refl, l, w)
+      let high : get_or bs 0 0 ≡ n / 256 = rw d w in
+      let low : get_or bs 1 0 ≡ n % 256 = rw d in
+      let y : x ≡ checksum (to ∷ code ∷ n / 256 ∷ n % 256 ∷ part r 4 n) = (rw (high, low) at k) ∙ closing s e in
+      rw (high, low, head, y, put_closed r hdr 4 n _ refl, l, w)
 
 -- a payload v that was written behind the place of the head, and closed: what a packet leaves in the buffer
 pub packed_over : (to : ℕ) (r v : List ℕ) (code n : ℕ) (r₁ r₂ : List ℕ) → r₁ ≡ put r 4 v → n ≡ length v → 4 + length v < length r

@@ -1,10 +1,8 @@
 -- What a packet yields: refusals 2 to 6, or its message. Assumes nothing.
-use Rattle.std.specs.Prelude.{List, ◌++◌, ℕ}
+use Rattle.std.specs.Prelude.{Bool, List, ◌++◌, ℕ, Result, Ok, Err}
 use Rattle.bsmp.specs.Base.{Test, first}
 use Rattle.bsmp.specs.Packet.{Place, is_own, destination, place_tests, packet_tests}
 use Rattle.bsmp.specs.declared.Refusal.{Refusal}
-use Rattle.wire.specs.declared.Opened.{Opened}
-use Rattle.wire.specs.declared.Opened.TheVariants.{Message, Refused}
 
 -- own address and multicast byte, as they are lent
 abbrev pub placed : (own multicast : ℕ) → Place
@@ -14,6 +12,6 @@ placed own multicast = record { own = own; multicast = multicast }
 abbrev pub opening_tests : Place → (room : ℕ) → List ℕ → List (Test Refusal)
 opening_tests a room p = place_tests a room ++ packet_tests a p
 
--- a message, with whether an answer is due, or the first refusal
-unfoldable pub opened_of : Place → (room : ℕ) → List ℕ → Opened
-opened_of a room p = first (opening_tests a room p) Refused (Message (is_own a (destination p)))
+-- a message: whether an answer is due; or the first refusal
+unfoldable pub opened_of : Place → (room : ℕ) → List ℕ → Result Bool Refusal
+opened_of a room p = first (opening_tests a room p) Err (Ok (is_own a (destination p)))

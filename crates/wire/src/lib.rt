@@ -9,64 +9,48 @@ ghost use Rattle.wire.specs.Opening.{placed, opened_of};
 
 use bsmp::Refusal;
 
-// What a packet yields: a message, which stands from place 1 up to the last byte, or its refusal.
-#[derive(Clone, Copy)]
-pub enum Opened {
-    Message { due: bool },
-    Refused(Refusal),
-}
-
 // Whether own address and multicast byte are such as a node may have.
+#[tactic(auto, unfolding(bsmp::specs::Packet::usable_place, bsmp::specs::Base::has))]
 fn usable_place(own: u8, multicast: u8) -> bool
     ensures { result ≡ usable_place (placed own multicast) }
 {
-    if own < 1 {
-        return false;
-    }
-    if 31 < own {
-        return false;
-    }
-    multicast % 2 == 1
+    (1..=31).contains(&own) && multicast % 2 == 1
 }
 
 // Whether the multicast byte has the address: its most significant bit is 248, its least 255.
+#[tactic(auto, unfolding(bsmp::specs::Packet::in_multicast, bsmp::specs::Base::has))]
 pub fn in_multicast(multicast: u8, address: u8) -> bool
     ensures { result ≡ in_multicast multicast address }
 {
-    if address < 248 {
-        return false;
-    }
-    (multicast >> (255 - address)) % 2 == 1
+    248 <= address && (multicast >> (255 - address)) % 2 == 1
 }
 
-// Refusals 2 to 6, in this order; `room` is the length of the reply buffer.
-pub fn open(packet: &[u8], own: u8, multicast: u8, room: usize) -> Opened
+// What a packet yields: a message, which stands from place 1 up to the last byte, with whether an answer is due, or its refusal: 2 to 6, in
+// this order. `room` is the length of the reply buffer.
+#[tactic(auto, unfolding(crate::specs::Opening::opened_of, bsmp::specs::Base::first))]
+pub fn open(packet: &[u8], own: u8, multicast: u8, room: usize) -> Result<bool, Refusal>
     ensures { result ≡ opened_of (placed own multicast) room packet.now }
 {
     if !usable_place(own, multicast) {
-        return Opened::Refused(Refusal::BadAddress);
+        return Err(Refusal::BadAddress);
     }
     if room < 4104 {
-        return Opened::Refused(Refusal::ReplyBufferShort);
+        return Err(Refusal::ReplyBufferShort);
     }
-    let n = packet.len();
-    if n < 2 {
-        return Opened::Refused(Refusal::PacketLength);
-    }
-    if 4104 < n {
-        return Opened::Refused(Refusal::PacketLength);
+    if !(2..=4104).contains(&packet.len()) {
+        return Err(Refusal::PacketLength);
     }
     if lists::byte_sum(packet) != 0 {
-        return Opened::Refused(Refusal::Checksum);
+        return Err(Refusal::Checksum);
     }
     let destination = packet[0];
     if destination == own {
-        return Opened::Message { due: true };
+        return Ok(true);
     }
     if in_multicast(multicast, destination) {
-        return Opened::Message { due: false };
+        return Ok(false);
     }
-    Opened::Refused(Refusal::NotForThisBoard)
+    Err(Refusal::NotForThisBoard)
 }
 
 // Closes a packet whose payload of `size` bytes stands at 4; answers the packet's length. The head is added to the payload's
@@ -77,22 +61,22 @@ pub fn close(packet: &mut [u8], destination: u8, code: u8, size: usize) -> usize
         (result ≡ size + 5) × (packet.new ≡ put packet.old 0 (packed destination message)) }
 {
     let end = 4 + size;
-    let high = (size / 256) as u8;
-    let low = (size % 256) as u8;
-    let sum = lists::byte_sum(&packet[4..end]) as u16
-        + destination as u16
-        + code as u16
-        + high as u16
-        + low as u16;
+    let [high, low] = (size as u16).to_be_bytes();
+    let sum = lists::byte_sum(&packet[4..end])
+        .wrapping_add(destination)
+        .wrapping_add(code)
+        .wrapping_add(high)
+        .wrapping_add(low);
     packet[0] = destination;
     packet[1] = code;
     packet[2] = high;
     packet[3] = low;
-    packet[end] = ((256 - sum % 256) % 256) as u8;
+    packet[end] = sum.wrapping_neg();
     end + 1
 }
 
 // Closes a reply, which goes to destination 0.
+#[tactic(auto, unfolding(bsmp::specs::Packet::frame))]
 pub fn finish(reply: &mut [u8], code: u8, size: usize) -> usize
     requires { (size ≤ 4099) × (4104 ≤ length reply.old) }
     ensures { (result ≡ size + 5) × (reply.new ≡ put reply.old 0 (frame code (part reply.old 4 size))) }
