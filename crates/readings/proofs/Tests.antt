@@ -6,7 +6,6 @@ use Prim.Native.Nat.{ℕ, ◌≤◌, ◌<◌}
 use native.Mathlib.Omega.{arith}
 use borrow.Author.Tests.{lt-ltb, le-ltb, eq-eqb, ne_eqb, ltb-true, eqb-true, not-false}
 use lib.Dec.{eqb}
-use lib.ListN.{get_or}
 use Rattle.bsmp.specs.Base.{Test, first}
 use Rattle.bsmp.specs.Codes.{kind_of}
 use Rattle.bsmp.specs.Board.{fits_kind, is_type, usable_size, usable_variable, variable_rules, usable_variables}
@@ -20,49 +19,49 @@ use Rattle.bsmp.specs.declared.Refusal.TheVariants.{BoardUnusable, NoSuchVariabl
 use Rattle.bsmp.proofs.Bools.{and_true, all_at}
 use Rattle.bsmp.proofs.Lists.{every_at}
 use Rattle.bsmp.proofs.Chain.{clear, clear_at, first_case}
-use Rattle.records.specs.Lending.{records_of}
+use Rattle.records.specs.Lending.{record_at, records_of}
 use Rattle.rules.specs.Totals.{variables_total}
 use Rattle.records.specs.declared.Records.{Records}
-use Rattle.rules.specs.declared.Total.{Total}
 use Rattle.records.proofs.Lending.{record_count, record_at_lem}
 use Rattle.records.proofs.Sound.{variables_most}
-use Rattle.rules.proofs.Totals.{total_usable}
+use Rattle.std.specs.Prelude.{Option, Result, Ok, Err}
+use Rattle.std.specs.Option.{is_none}
+use Rattle.rules.proofs.Totals.{none_told, some_told}
 use Rattle.numbers.specs.Size.{is_size}
 use Rattle.readings.specs.Answers.{judged_of}
-use Rattle.readings.specs.declared.Judged.{Judged}
-use Rattle.readings.specs.declared.Judged.TheVariants.{Good, Refused}
 
 -- the returns of `judge` --------------------------------------------------------------------------------------------------
-module _ (r : Records) (i : VariableNumber) (s : Bool) (n : ℕ) (c : Total) (e : c ≡ variables_total (records_of r)) where
-  pub judge_unusable : not c.usable ≡ true → Refused BoardUnusable ≡ judged_of (records_of r) i s n
+module _ (r : Records) (i : VariableNumber) (s : Bool) (n : ℕ) (c : Option ℕ) (b : Bool) (e : c ≡ variables_total (records_of r)) (d : b ≡ is_none c) where
+  pub judge_unusable : b ≡ true → Err BoardUnusable ≡ judged_of (records_of r) i s n
   unfolding judged_of first
-  judge_unusable u = rw (← total_usable _ _ c e, u)
+  judge_unusable u = rw (none_told _ _ c e (sym d ∙ u))
 
-  module _ (u : not c.usable ≡ false) where
+  module _ (u : b ≡ false) where
     usable : usable_variables (records_of r) ≡ true
-    usable = sym (total_usable _ _ c e) ∙ not-false _ u
+    usable = some_told _ _ c e (sym d ∙ u)
 
-    pub judge_unknown : r.count ≤ i.0 → Refused NoSuchVariable ≡ judged_of (records_of r) i s n
+    pub judge_unknown : r.count ≤ i.0 → Err NoSuchVariable ≡ judged_of (records_of r) i s n
     unfolding judged_of first
     judge_unknown h = rw (usable, ← record_count r, le-ltb _ _ h)
 
     module _ (h : i.0 < r.count) where
-      pub place_within : (m : ℕ) → m ≡ 64 → i.0 < m
-      place_within m l = omega (arith, record_count r, variables_most (records_of r) usable)
+      pub place_within : i.0 < 64
+      place_within = omega (arith, record_count r, variables_most (records_of r) usable)
 
-      module _ (k : Kind) (w : Bool) (q : k ≡ kind_of (get_or r.kinds i.0 0)) (p : w ≡ wrong_kind s k) where
-        known : judged_of (records_of r) i s n ≡ cond w (Refused WrongKind) (cond (not (eqb n (get_or r.sizes i.0 0))) (Refused WrongByteCount) (Good (is_big k)))
+      -- the record, its kind, and whether that is the wrong one
+      module _ (v : Variable) (k : Kind) (w : Bool) (o : v ≡ record_at r i.0) (q : k ≡ kind_of v.kind) (p : w ≡ wrong_kind s k) where
+        known : judged_of (records_of r) i s n ≡ cond w (Err WrongKind) (cond (not (eqb n v.size)) (Err WrongByteCount) (Ok (is_big k)))
         unfolding judged_of first
-        known = rw (usable, ← record_count r, lt-ltb _ _ h, ← record_at_lem r i.0 h, ← q, ← p)
+        known = rw (usable, ← record_count r, lt-ltb _ _ h, ← record_at_lem r i.0 h, p, q, o)
 
-        pub judge_kind : w ≡ true → Refused WrongKind ≡ judged_of (records_of r) i s n
+        pub judge_kind : w ≡ true → Err WrongKind ≡ judged_of (records_of r) i s n
         judge_kind t = rw (known, t)
 
-        pub judge_count : w ≡ false → (n ≡ get_or r.sizes i.0 0 → ⊥) → Refused WrongByteCount ≡ judged_of (records_of r) i s n
-        judge_count t d = rw (known, t, ne_eqb _ _ d)
+        pub judge_count : w ≡ false → (n ≡ v.size → ⊥) → Err WrongByteCount ≡ judged_of (records_of r) i s n
+        judge_count t z = rw (known, t, ne_eqb _ _ z)
 
-        pub judge_good : (b : Bool) → w ≡ false → n ≡ get_or r.sizes i.0 0 → b ≡ is_big k → Good b ≡ judged_of (records_of r) i s n
-        judge_good b t d o = rw (known, t, eq-eqb _ _ d, o)
+        pub judge_good : (g : Bool) → w ≡ false → n ≡ v.size → g ≡ is_big k → Ok g ≡ judged_of (records_of r) i s n
+        judge_good g t z f = rw (known, t, eq-eqb _ _ z, f)
 
 pub ruleset judge_cases = (judge_unusable, judge_unknown, judge_kind, judge_count, judge_good)
 
@@ -77,34 +76,31 @@ unfolding first
 first_through g [] f x = refl
 first_through g (u ∷ us) f x = through_cond g u.broken _ _ ∙ ap (cond u.broken (g (f u.error))) (first_through g us f x)
 
-abbrev either : {B : Type 0} → (Refusal → B) → B → Judged → B
-either f ok (Refused x) = f x
-either f ok (Good b) = ok
+abbrev either : {B : Type 0} → (Refusal → B) → B → Result Bool Refusal → B
+either f ok (Err x) = f x
+either f ok (Ok b) = ok
 
 number_size : (s : Bool) (n : ℕ) (k : Kind) → wrong_kind s k ≡ false → fits_kind n k ≡ true → is_size n ≡ true
 number_size s n Plain w f = absurd (true≢false w)
 number_size s n (Number t b) w f = f
 number_size s n Unknown w f = absurd (true≢false w)
 
-module _ (vs : List Variable) (i : VariableNumber) (s : Bool) (n : ℕ) (j : Judged) (e : j ≡ judged_of vs i s n) where
-  tested : {B : Type 0} (f : Refusal → B) (ok : B) → either f ok j ≡ first (reading_tests vs i s n) f ok
+module _ (vs : List Variable) (i : VariableNumber) (s : Bool) (n : ℕ) where
+  tested : {B : Type 0} (f : Refusal → B) (ok : B) (j : Result Bool Refusal) → j ≡ judged_of vs i s n → either f ok j ≡ first (reading_tests vs i s n) f ok
   unfolding judged_of
-  tested f ok = ap (either f ok) e ∙ first_through (either f ok) _ Refused _
+  tested f ok j e = ap (either f ok) e ∙ first_through (either f ok) _ Err _
 
-  pub refused_first : {B : Type 0} (f : Refusal → B) (ok : B) (x : Refusal) → j ≡ Refused x → f x ≡ first (reading_tests vs i s n) f ok
-  refused_first f ok x h = ap (either f ok) (sym h) ∙ tested f ok
+  pub refused_first : {B : Type 0} (f : Refusal → B) (ok : B) (x : Refusal) → Err x ≡ judged_of vs i s n → f x ≡ first (reading_tests vs i s n) f ok
+  refused_first f ok x = tested f ok (Err x)
 
-  module _ (big : Bool) (h : j ≡ Good big) where
+  module _ (big : Bool) (e : Ok big ≡ judged_of vs i s n) where
     pub good_first : {B : Type 0} (f : Refusal → B) (ok : B) → ok ≡ first (reading_tests vs i s n) f ok
-    good_first f ok = ap (either f ok) (sym h) ∙ tested f ok
+    good_first f ok = tested f ok (Ok big) e
 
     passed : clear (reading_tests vs i s n) × (big ≡ is_big (kind_at vs i))
     unfolding judged_of
-    passed = first_case (λ z. z ≡ Good big → clear (reading_tests vs i s n) × (big ≡ is_big (kind_at vs i))) _ Refused _
-        (λ x k. absurd (never x k)) (λ c k. (c, cc)) (sym e ∙ h)
-      where
-        never : (x : Refusal) → Refused x ≡ Good big → ⊥
-        never x k = let z : ◌≡◌ {A = ℕ} 0 1 = cc in omega arith
+    passed = first_case (λ z. z ≡ Ok big → clear (reading_tests vs i s n) × (big ≡ is_big (kind_at vs i))) _ Err _
+        (λ x k. absurd (cc)) (λ c k. (c, cc)) (sym e)
 
     pub good_big : big ≡ is_big (kind_at vs i)
     good_big = passed.1

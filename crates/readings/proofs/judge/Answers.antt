@@ -1,29 +1,26 @@
--- `judge` meets its contract: each return is one case of `judged_of`. Assumes nothing.
-use mir.Facts.{Fits-widen}
+-- `judge` meets its contract. Assumes nothing.
+use mathlib.Core.Path.{◌≡◌}
+use Rattle.std.specs.Option.{is_none}
 use Rattle.readings.proofs.Tests.{judge_cases, place_within}
 use borrow.Author.Rules.{rules}
 use Rattle.readings.proofs.judge.Goals as goal
 
-pub returns-then-not-usable_records : goal.returns-then-not-usable_records
-returns-then-not-usable_records c = search (judge_cases, rules)
+pub returns-then-is_none : goal.returns-then-is_none
+returns-then-is_none c = search (judge_cases, rules)
 
-pub returns-then-count-at : goal.returns-then-count-at
-returns-then-count-at c = search (judge_cases, rules)
+pub returns-then-records-at : goal.returns-then-records-at
+returns-then-records-at c = search (judge_cases, rules)
 
-pub bounds-kinds-at : goal.bounds-kinds-at
-bounds-kinds-at c = search (place_within, rules)
+pub at-v-requires : goal.at-v-requires
+at-v-requires c =
+    let d : c.is_none.result ≡ is_none c.usable_records.result = search rules in
+    place_within c.args.records.now c.args.variable c.args.signed c.args.bytes _ _ c.usable_records.ensures d c.if-is_none.false c.if-records-at.false
 
-pub bounds-sizes-at : goal.bounds-sizes-at
-bounds-sizes-at c = search place_within
+pub returns-then-wrong_kind : goal.returns-then-wrong_kind
+returns-then-wrong_kind c = search (judge_cases, rules)
 
-pub overflow_cast-size : goal.overflow_cast-size
-overflow_cast-size c = Fits-widen tt (c.shared_slice_known-1.given _)
-
-pub returns-then-wrong : goal.returns-then-wrong
-returns-then-wrong c = search (judge_cases, rules)
-
-pub returns-then-bytes-size : goal.returns-then-bytes-size
-returns-then-bytes-size c = search (judge_cases, rules)
+pub returns-then-bytes-v : goal.returns-then-bytes-v
+returns-then-bytes-v c = search (judge_cases, rules)
 
 pub returns : goal.returns
 returns c = search (judge_cases, rules)
