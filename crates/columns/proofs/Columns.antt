@@ -2,7 +2,7 @@
 use mathlib.Core.Path.{◌≡◌, refl, sym, ◌∙◌, ap, subst}
 use mathlib.Core.Logic.{inl, inr}
 use mathlib.Core.List.{List}
-use Prim.Native.Nat.{ℕ, zero, suc, min, ◌+◌, ◌<◌, ◌≤◌}
+use Prim.Native.Nat.{ℕ, zero, suc, min, ◌+◌, ◌*◌, ◌/◌, ◌<◌, ◌≤◌}
 use native.Mathlib.Nat.{add-zero, not-suc-le-zero, le_of_suc-le-suc, eq-or-lt_of_le}
 use native.Mathlib.Omega.{arith}
 use native.Mathlib.Decide.{dec_lt}
@@ -57,20 +57,40 @@ backwards_on r vs i (suc k) =
     rw o (backwards_last (columns_to r vs i) vs i k ∙ ap (λ (t : Records). with_record t (i + k) (variable_at vs (i + k))) (backwards_on r vs i k))
 
 -- one of them
-pub one_more : (r : Records) (vs : List Variable) (i : ℕ) → with_record (columns_to r vs i) i (variable_at vs i) ≡ columns_to r vs (i + 1)
+one_more : (r : Records) (vs : List Variable) (i : ℕ) → with_record (columns_to r vs i) i (variable_at vs i) ≡ columns_to r vs (i + 1)
 unfolding columns_to
 one_more r vs i =
     let o : i + 1 ≡ suc i = omega arith in
     rw o
 
 -- four of them
-pub four_more : (r : Records) (vs : List Variable) (i : ℕ)
+four_more : (r : Records) (vs : List Variable) (i : ℕ)
     → with_record (with_record (with_record (with_record (columns_to r vs i) (i + 3) (variable_at vs (i + 3))) (i + 2) (variable_at vs (i + 2))) (i + 1) (variable_at vs (i + 1))) i (variable_at vs i) ≡ columns_to r vs (i + 4)
+unfolding columns_to
 four_more r vs i =
     let a : i + 1 ≡ suc i = omega arith in
     let b : i + 2 ≡ suc (suc i) = omega arith in
     let c : i + 3 ≡ suc (suc (suc i)) = omega arith in
     rw (a, b, c) (backwards_on r vs i 4)
+
+-- ---- what a turn of either loop of `take` keeps
+pub none_stored : (vs : List Variable) (n : ℕ) (lent : Records) → FirstStored vs n lent lent 0
+unfolding columns_to
+none_stored vs n lent = record { within = omega arith; stored = refl }
+
+pub one_stored : (vs : List Variable) (n : ℕ) (lent held next : Records) (i : ℕ) → FirstStored vs n lent held i → i < n
+    → next ≡ with_record held i (variable_at vs i) → FirstStored vs n lent next (i + 1)
+one_stored vs n lent held next i h l e = record { within = omega arith; stored = rw h.stored at e ∙ one_more lent vs i }
+
+pub four_stored : (vs : List Variable) (n : ℕ) (lent held d c b a : Records) (turn : ℕ) → FirstStored vs n lent held (4 * turn) → turn < n / 4
+    → d ≡ with_record held (4 * turn + 3) (variable_at vs (4 * turn + 3)) → c ≡ with_record d (4 * turn + 2) (variable_at vs (4 * turn + 2))
+    → b ≡ with_record c (4 * turn + 1) (variable_at vs (4 * turn + 1)) → a ≡ with_record b (4 * turn) (variable_at vs (4 * turn))
+    → FirstStored vs n lent a (4 * (turn + 1))
+four_stored vs n lent held d c b a turn h l dh ch bh ah =
+    let o : 4 * (turn + 1) ≡ 4 * turn + 4 = omega arith in
+    let q : a ≡ with_record (with_record (with_record (with_record held (4 * turn + 3) (variable_at vs (4 * turn + 3))) (4 * turn + 2) (variable_at vs (4 * turn + 2))) (4 * turn + 1) (variable_at vs (4 * turn + 1))) (4 * turn) (variable_at vs (4 * turn)) =
+    rw (bh, ch, dh) at ah in
+    rw o (record { within = omega arith; stored = rw h.stored at q ∙ four_more lent vs (4 * turn) })
 
 -- ---- over columns of zeros
 abbrev to : List Variable → ℕ → Records

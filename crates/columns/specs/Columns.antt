@@ -21,12 +21,12 @@ columns_to r vs zero = r
 columns_to r vs (suc k) = with_record (columns_to r vs k) k (variable_at vs k)
 
 -- all counted, and as many stored as the columns have places for
-abbrev pub taken_into : (writable sizes kinds : List ℕ) → List Variable → Records
-taken_into ws ss ks vs = columns_to (records_by (length vs) ws ss ks) vs (min (length vs) 64)
+abbrev pub taken_into : Records → List Variable → Records
+taken_into r vs = columns_to (records_by (length vs) r.writable r.sizes r.kinds) vs (min (length vs) 64)
 
 -- .. over columns of zeros
 abbrev pub zeros : List ℕ
 zeros = replicate 64 0
 
 abbrev pub columns_of : List Variable → Records
-columns_of vs = taken_into zeros zeros zeros vs
+columns_of vs = taken_into (records_by 0 zeros zeros zeros) vs

@@ -1,63 +1,56 @@
 // A board's variable records, lent as a slice of small structs, taken into columns, which are lent to the work.
 #![tactic(auto)]
 
-ghost use Rattle.std.specs.Prelude.{◌≡◌, min};
-ghost use Rattle.records.specs.Lending.{records_by};
-ghost use Rattle.columns.specs.Columns.{taken_into};
+ghost use Rattle.std.specs.Prelude.{◌≡◌, ◌<◌};
+ghost use Rattle.columns.specs.Columns.{with_record, taken_into, columns_of};
 
 use bsmp::Variable;
+use records::Records;
 
-// How many of so many records have a place in the columns.
-fn stored(count: usize) -> usize
-    ensures { result ≡ min count 64 }
+// The places of a column.
+const PLACES: usize = 64;
+
+// One record at its place of each column.
+#[inline(always)]
+fn store(records: &mut Records, i: usize, v: Variable)
+    requires { i < PLACES }
+    ensures { records.new ≡ with_record records.old i v }
 {
-    if count < 64 {
-        return count;
-    }
-    64
+    records.writable[i] = v.writable;
+    records.sizes[i] = v.size;
+    records.kinds[i] = v.kind;
 }
 
 // The lent records stored into columns in place, in one walk, and how many there are. Of more than 64 the rest is counted alone, and so refused by the work.
-// Each turn stores four of them, the last first, so that the bound of one holds for the others too; what is left of them comes one by one.
-pub fn take(
-    variables: &[Variable],
-    writable: &mut [u8; 64],
-    sizes: &mut [u8; 64],
-    kinds: &mut [u8; 64],
-) -> usize
-    ensures { records_by result writable.new sizes.new kinds.new
-        ≡ taken_into writable.old sizes.old kinds.old variables.now }
+// Each turn of the first loop stores four of them, the last first, so that the bound of one holds for the others too: one by one takes a packet of a full board
+// longer (docs/PERFORMANCE.md). What is left of them comes one by one.
+pub fn take(variables: &[Variable], records: &mut Records)
+    ensures { records.new ≡ taken_into records.old variables.now }
 {
-    let n = stored(variables.len());
-    let mut i: usize = 0;
-    while i + 3 < n {
-        let fourth = i + 3;
-        let d = variables[fourth];
-        writable[fourth] = d.writable;
-        sizes[fourth] = d.size;
-        kinds[fourth] = d.kind;
-        let third = i + 2;
-        let c = variables[third];
-        writable[third] = c.writable;
-        sizes[third] = c.size;
-        kinds[third] = c.kind;
-        let second = i + 1;
-        let b = variables[second];
-        writable[second] = b.writable;
-        sizes[second] = b.size;
-        kinds[second] = b.kind;
-        let a = variables[i];
-        writable[i] = a.writable;
-        sizes[i] = a.size;
-        kinds[i] = a.kind;
-        i += 4;
+    records.count = variables.len();
+    let n = variables.len().min(PLACES);
+    for turn in 0..n / 4 {
+        let i = 4 * turn;
+        store(records, i + 3, variables[i + 3]);
+        store(records, i + 2, variables[i + 2]);
+        store(records, i + 1, variables[i + 1]);
+        store(records, i, variables[i]);
     }
-    while i < n {
-        let v = variables[i];
-        writable[i] = v.writable;
-        sizes[i] = v.size;
-        kinds[i] = v.kind;
-        i += 1;
+    for i in n / 4 * 4..n {
+        store(records, i, variables[i]);
     }
-    variables.len()
+}
+
+// The lent records in columns of their own.
+pub fn taken(variables: &[Variable]) -> Records
+    ensures { result ≡ columns_of variables.now }
+{
+    let mut records = Records {
+        count: 0,
+        writable: [0; 64],
+        sizes: [0; 64],
+        kinds: [0; 64],
+    };
+    take(variables, &mut records);
+    records
 }
