@@ -1,7 +1,6 @@
 -- A message cut anywhere: its whole chunks, and what is left of it. Assumes nothing.
-use Rattle.std.proofs.Common.{◌≡◌, ℕ, zero, suc, ◌+◌, ◌-◌, ◌*◌, ◌/◌, ◌%◌, ◌^◌, ◌<◌, ◌≤◌, List, ◌++◌, length, take, drop, sym, refl, ap, ◌∙◌, ap₂, append_assoc, arith, length-append, length-drop, length-take, drop-drop}
-use borrow.Rule.Slice.PartMut.{mid_of}
-use lib.Seq.{take-append-le, drop-append-le}
+use Rattle.std.proofs.Common.{◌≡◌, ℕ, zero, suc, ◌+◌, ◌*◌, ◌/◌, ◌%◌, ◌^◌, ◌<◌, ◌≤◌, List, ◌++◌, length, take, drop, sym, refl, ap, ◌∙◌, ap₂, append_assoc, arith, length-append, length-drop, drop-drop}
+use lib.Seq.{take_at, drop_at, take-append-le, drop-append-le}
 use Rattle.rfc1321.specs.Md5.{operated, chunks, hashed}
 use Rattle.rfc1321.specs.declared.State.{State}
 use Rattle.digest.specs.Stream.{Stream, rest, fed}
@@ -35,22 +34,15 @@ pub hashed_end : (q : State) (m : List ℕ) → length m < 64 → hashed q m ≡
 unfolding hashed chunks
 hashed_end q m h = let e : length m / 64 ≡ 0 = omega arith in rw e
 
--- the same from i on, as a loop has it that lends each chunk
-pub chunk_long : (m : List ℕ) (i : ℕ) → 64 ≤ length m - i → 64 ≤ length (mid_of i (i + 64 - i) m)
-chunk_long m i h = simp (length-take, length-drop) (omega arith)
+-- the same as a loop has it over the chunks of a message, where s is what is left of it
+pub chunk_turn : (q q' z : State) (s x r : List ℕ) → q' ≡ operated q x → s ≡ x ++ r → length x ≡ 64 → hashed q s ≡ z → hashed q' r ≡ z
+chunk_turn q q' z s x r e c l h =
+    let t : take 64 (x ++ r) ≡ x = take_at x r 64 l in
+    let d : drop 64 (x ++ r) ≡ r = drop_at x r 64 l in
+    rw e (rw (c, hashed_turn q (x ++ r) (simp length-append (omega arith)), t, d) at h)
 
-pub chunk_turn : (m : List ℕ) (i : ℕ) (q q' x : State) → 64 ≤ length m - i → q' ≡ operated q (mid_of i (i + 64 - i) m)
-    → hashed q (drop i m) ≡ x → hashed q' (drop (i + 64) m) ≡ x
-chunk_turn m i q q' x h e k =
-    let l : 64 ≤ length (drop i m) = simp length-drop (omega arith) in
-    let n : i + 64 - i ≡ 64 = omega arith in
-    ap (λ (y : State). hashed y (drop (i + 64) m)) (e ∙ ap (λ (y : ℕ). operated q (take y (drop i m))) n)
-    ∙ ap (hashed (operated q (take 64 (drop i m)))) (sym (drop-drop 64 i m))
-    ∙ sym (hashed_turn q (drop i m) l)
-    ∙ k
-
-pub chunk_end : (m : List ℕ) (i : ℕ) (q x : State) → length m - i < 64 → hashed q (drop i m) ≡ x → q ≡ x
-chunk_end m i q x h k = sym (hashed_end q (drop i m) (simp length-drop (omega arith))) ∙ k
+pub chunk_end : (q z : State) (s : List ℕ) → length s < 64 → hashed q s ≡ z → q ≡ z
+chunk_end q z s l h = sym (hashed_end q s l) ∙ h
 
 module _ (x b : List ℕ) where
   count : length (x ++ b) / 64 ≡ length x / 64 + length (rest x ++ b) / 64

@@ -1,9 +1,10 @@
 -- The padding and the length as the last two pieces: then it is the digest. Assumes nothing.
-use Rattle.std.proofs.Common.{◌≡◌, ℕ, suc, ◌+◌, ◌-◌, ◌*◌, ◌/◌, ◌%◌, ◌^◌, List, [], ◌∷◌, ◌++◌, length, get_or, take, replicate, sym, ap, ◌∙◌, ap₂, add-zero, zero-add, arith, take_at}
-use borrow.Rule.Slice.PartMut.{mid_of}
+use Rattle.std.proofs.Common.{◌≡◌, ℕ, suc, ◌+◌, ◌-◌, ◌*◌, ◌/◌, ◌%◌, ◌^◌, List, [], ◌∷◌, ◌++◌, length, take, replicate, sym, ap, ◌∙◌, ap₂, add-zero, zero-add, arith, take_at, mod-lt, pow-add, pow_pos}
+use Rattle.std.specs.Int.{w64, to_le_bytes}
+use native.Mathlib.Nat.{div-div-eq-div-mul}
 use lib.ListN.{length-replicate, replicate-append-replicate}
+use lib.Pow.{high, mod-pow-add, mod-mod-pow}
 use Rattle.rfc1321.specs.Md5.{bytes, padding, length_bytes, padded, output, digest}
-use Rattle.rfc1321.specs.declared.State.{State}
 use Rattle.digest.specs.Stream.{Stream, held, begun, fed, closed}
 use Rattle.digest.specs.declared.Progress.{Progress}
 use Rattle.digest.proofs.Chunks.{fed_fed}
@@ -12,11 +13,11 @@ use Rattle.digest.proofs.Chunks.{fed_fed}
 first_of : (k n x : ℕ) → take k (replicate (k + n) x) ≡ replicate k x
 first_of k n x = ap (take k) (sym (replicate-append-replicate k n x)) ∙ take_at (replicate k x) (replicate n x) k (length-replicate k x)
 
-pub padding_part : (n : ℕ) → mid_of 0 (1 + (119 - n % 64) % 64 - 0) (0x80 ∷ replicate 63 0) ≡ padding n
+pub padding_part : (n : ℕ) → take (1 + (119 - n % 64) % 64) (0x80 ∷ replicate 63 0) ≡ padding n
 unfolding padding
 padding_part n =
     let k : ℕ = (119 - n % 64) % 64 in
-    let e : 1 + (119 - n % 64) % 64 - 0 ≡ suc k = omega arith in
+    let e : 1 + (119 - n % 64) % 64 ≡ suc k = omega arith in
     let z : 63 ≡ k + (63 - k) = omega arith in
     ap (λ (x : ℕ). take x (0x80 ∷ replicate 63 0)) e ∙ ap (λ (l : List ℕ). 0x80 ∷ l) (ap (λ (x : ℕ). take k (replicate {A = ℕ} x 0)) z ∙ first_of k (63 - k) 0)
 
@@ -24,29 +25,41 @@ padding_part n =
 high_word : (n : ℕ) → n / 0x20000000 ≡ 8 * n / 2 ^ 32
 high_word n = omega arith
 
-pub length_made : (n : ℕ) (low high : List ℕ) → low ≡ bytes (n % 0x20000000 * 8) → high ≡ bytes (n / 0x20000000 % 0x100000000)
-    → get_or low 0 0 ∷ get_or low 1 0 ∷ get_or low 2 0 ∷ get_or low 3 0 ∷ get_or high 0 0 ∷ get_or high 1 0 ∷ get_or high 2 0 ∷ get_or high 3 0 ∷ [] ≡ length_bytes (8 * n)
-unfolding length_bytes bytes
-length_made n low high e₁ e₂ =
-    let l : n % 0x20000000 * 8 ≡ 8 * n % 2 ^ 32 = omega arith in
-    let h : n / 0x20000000 % 0x100000000 ≡ 8 * n / 2 ^ 32 % 2 ^ 32 = ap (λ (x : ℕ). x % 2 ^ 32) (high_word n) in
-    rw (e₁, e₂, l, h)
+-- a number without its high bits, and then without its low ones: a byte of it
+cut : (n j k : ℕ) → n % 2 ^ (j + k) / 2 ^ k ≡ n / 2 ^ k % 2 ^ j
+cut n j k = ap (λ (x : ℕ). x / 2 ^ k) (mod-pow-add n j k) ∙ high (n / 2 ^ k % 2 ^ j) k (mod-lt n (pow_pos k))
 
--- the bytes of four words
-pub output_made : (q : State) (a b c d : List ℕ) → a ≡ bytes q.a → b ≡ bytes q.b → c ≡ bytes q.c → d ≡ bytes q.d
-    → get_or a 0 0 ∷ get_or a 1 0 ∷ get_or a 2 0 ∷ get_or a 3 0 ∷ get_or b 0 0 ∷ get_or b 1 0 ∷ get_or b 2 0 ∷ get_or b 3 0
-    ∷ get_or c 0 0 ∷ get_or c 1 0 ∷ get_or c 2 0 ∷ get_or c 3 0 ∷ get_or d 0 0 ∷ get_or d 1 0 ∷ get_or d 2 0 ∷ get_or d 3 0 ∷ [] ≡ output q
-unfolding output bytes
-output_made q a b c d e₁ e₂ e₃ e₄ = rw (e₁, e₂, e₃, e₄)
+byte_of : (n j k : ℕ) → n % 2 ^ (j + 8 + k) / 2 ^ k % 2 ^ 8 ≡ n / 2 ^ k % 2 ^ 8
+byte_of n j k = ap (λ (x : ℕ). x % 2 ^ 8) (cut n (j + 8) k) ∙ mod-mod-pow (n / 2 ^ k) j 8
+
+-- one of the first four, and one of the last
+first_four : (n j k : ℕ) → n % 2 ^ (32 + j + 8 + k) / 2 ^ k % 2 ^ 8 ≡ n % 2 ^ (j + 8 + k) / 2 ^ k % 2 ^ 8
+first_four n j k = byte_of n (32 + j) k ∙ sym (byte_of n j k)
+
+last_four : (n j k : ℕ) → n % 2 ^ (j + 8 + (32 + k)) / 2 ^ (32 + k) % 2 ^ 8 ≡ n / 2 ^ 32 % 2 ^ (j + 8 + k) / 2 ^ k % 2 ^ 8
+last_four n j k =
+    byte_of n j (32 + k)
+    ∙ ap (λ (x : ℕ). n / x % 2 ^ 8) (pow-add 2 32 k)
+    ∙ ap (λ (x : ℕ). x % 2 ^ 8) (sym (div-div-eq-div-mul n (2 ^ 32) (2 ^ k)))
+    ∙ sym (byte_of (n / 2 ^ 32) j k)
+
+pub length_made : (n : ℕ) → to_le_bytes w64 (n * 8 % 2 ^ 64) ≡ length_bytes (8 * n)
+unfolding length_bytes bytes
+length_made n =
+    let b : ℕ = 8 * n in
+    let m : n * 8 ≡ 8 * n = omega arith in
+    let zeroth : b % 2 ^ 64 % 2 ^ 8 ≡ b % 2 ^ 32 % 2 ^ 8 = mod-mod-pow b 56 8 ∙ sym (mod-mod-pow b 24 8) in
+    let fourth : b % 2 ^ 64 / 2 ^ 32 % 2 ^ 8 ≡ b / 2 ^ 32 % 2 ^ 32 % 2 ^ 8 = ap (λ (x : ℕ). x % 2 ^ 8) (cut b 32 32) in
+    rw (m, zeroth, first_four b 16 8, first_four b 8 16, first_four b 0 24, fourth, last_four b 16 8, last_four b 8 16, last_four b 0 24)
 
 -- `finish`: the padding v, then the length w
-pub closing : (b b₁ b₂ v w r : List ℕ) (p p₁ p₂ : Progress) → r ≡ output p₂.state → held b₂ p₂ ≡ fed (held b₁ p₁) w → w ≡ length_bytes (8 * p.total)
-    → held b₁ p₁ ≡ fed (held b p) v → v ≡ padding p.total → r ≡ closed (held b p)
+pub closing : (v w r : List ℕ) (p p₁ p₂ : Progress) → r ≡ output p₂.state → held p₂ ≡ fed (held p₁) w → w ≡ length_bytes (8 * p.total)
+    → held p₁ ≡ fed (held p) v → v ≡ padding p.total → r ≡ closed (held p)
 unfolding closed
-closing b b₁ b₂ v w r p p₁ p₂ e₁ e₂ e₃ e₄ e₅ =
+closing v w r p p₁ p₂ e₁ e₂ e₃ e₄ e₅ =
     e₁
     ∙ ap (λ (x : Stream). output x.state) e₂
-    ∙ ap₂ (λ (x : Stream) (y : List ℕ). output (fed x y).state) (e₄ ∙ ap (fed (held b p)) e₅) e₃
+    ∙ ap₂ (λ (x : Stream) (y : List ℕ). output (fed x y).state) (e₄ ∙ ap (fed (held p)) e₅) e₃
 
 -- what follows n bytes, as one piece
 abbrev ending : ℕ → List ℕ
@@ -80,6 +93,6 @@ pub closed_nil : (q : Stream) → closed (fed q []) ≡ closed q
 closed_nil q = closed_fed q [] ∙ ap (λ (n : ℕ). output (fed q (ending n)).state) (add-zero q.total) ∙ sym (closed_is q)
 
 -- a whole message that was fed is its digest
-pub closed_digest : (b m : List ℕ) → closed (fed (held b begun) m) ≡ digest m
+pub closed_digest : (m : List ℕ) → closed (fed begun m) ≡ digest m
 unfolding digest padded fed
-closed_digest b m = closed_fed (held b begun) m ∙ ap (λ (n : ℕ). output (fed (held b begun) (m ++ ending n)).state) (zero-add (length m))
+closed_digest m = closed_fed begun m ∙ ap (λ (n : ℕ). output (fed begun (m ++ ending n)).state) (zero-add (length m))

@@ -1,5 +1,5 @@
 -- A message that comes in pieces: what is held of it between them. Assumes nothing.
-use Rattle.std.specs.Prelude.{ℕ, ◌+◌, ◌*◌, ◌/◌, ◌%◌, ◌^◌, List, ◌++◌, length, take, drop}
+use Rattle.std.specs.Prelude.{ℕ, ◌+◌, ◌*◌, ◌/◌, ◌%◌, ◌^◌, List, [], ◌++◌, length, take, drop}
 use Rattle.rfc1321.specs.Md5.{initial, hashed, output, padding, length_bytes}
 use Rattle.rfc1321.specs.declared.State.{State}
 use Rattle.digest.specs.declared.Progress.{Progress}
@@ -11,11 +11,12 @@ pub record Stream : Type 0 where
   pub total : ℕ
 
 -- the same as the code has it: those that wait are the first of a buffer of 64 bytes
-abbrev pub held : List ℕ → Progress → Stream
-held buffer p = record { state = p.state; waiting = take (p.total % 64) buffer; total = p.total }
+abbrev pub held : Progress → Stream
+held p = record { state = p.state; waiting = take (p.total % 64) p.buffer; total = p.total }
 
-abbrev pub begun : Progress
-begun = record { state = initial; total = 0 }
+-- nothing yet
+abbrev pub begun : Stream
+begun = record { state = initial; waiting = []; total = 0 }
 
 -- what is left of m after its whole chunks
 unfoldable pub rest : List ℕ → List ℕ
