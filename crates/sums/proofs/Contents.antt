@@ -13,8 +13,6 @@ use mir.Syntax.{w64}
 use mir.Val.{Fits}
 use borrow.Author.Tests.{le-leb}
 use borrow.Rule.Slice.PartMut.{mid_of}
-use Rattle.copies.specs.Put.{part}
-use Rattle.copies.proofs.Put.{length_part}
 use Rattle.bsmp.specs.Base.{sum, every, join, up_from, cut}
 use Rattle.bsmp.specs.Board.{blank_curve, block_sizes, block_place, fitting, usable_curves}
 use Rattle.bsmp.specs.Store.{start}
@@ -28,9 +26,8 @@ use Rattle.records.specs.Lending.{curve_blocks, curve_bytes, start_of}
 use Rattle.records.specs.declared.Start.{Start}
 use Rattle.records.proofs.Sound.{curves_small, blocks_small}
 use Rattle.records.proofs.Blocks.{before_within, blocks_within, block_count, block_size, curve_start}
-use Rattle.sums.specs.declared.Content.{Content}
 use Rattle.curves.specs.Fits.{SoundCurves, SoundLengths}
-use Rattle.sums.specs.Sums.{covered, Blocks, ContentAt}
+use Rattle.sums.specs.Sums.{covered, Blocks, content_in}
 
 -- of blocks with these sizes and lengths in a store, n from place k on, all of one size
 module _ (ms ns s : List ℕ) (size : ℕ) (f : fitting ms ns ≡ true) where
@@ -83,9 +80,6 @@ module _ (cs : List Curve) (c : CurveNumber) (x : Curve) (b : Start) (u : usable
   places : b.blocks + x.blocks ≤ curve_blocks cs
   places = blocks_within cs (length cs) c.0 b.blocks x u (omega arith) h e (ap (λ (y : Start). y.blocks) q)
 
-  pub content_mul : Fits w64 (x.size * x.blocks)
-  content_mul = record { fits = omega (arith, room, curves_small cs u) }
-
   pub content_add : Fits w64 (b.bytes + x.size * x.blocks)
   content_add = record { fits = omega (arith, room, curves_small cs u) }
 
@@ -101,39 +95,40 @@ module _ (cs : List Curve) (c : CurveNumber) (x : Curve) (b : Start) (u : usable
   one_size : (j : ℕ) → j < x.blocks → get_or (block_sizes cs) (b.blocks + j) 0 ≡ x.size
   one_size j l = ap (λ (y : Start). get_or (block_sizes cs) (y.blocks + j) 0) q ∙ block_size cs c.0 x h e j l
 
-  pub content_at_lem : ContentAt cs c (record { size = x.size; from = b.bytes; to = b.bytes + x.size * x.blocks; first = b.blocks; end = b.blocks + x.blocks })
-  unfolding part
-  content_at_lem =
-      let n : b.bytes + x.size * x.blocks - b.bytes ≡ x.size * x.blocks = add-sub_cancel_left b.bytes (x.size * x.blocks) in
-      let m : b.blocks + x.blocks - b.blocks ≡ x.blocks = add-sub_cancel_left b.blocks x.blocks in
-      let k : b.blocks + x.blocks ≤ length (block_sizes cs) = omega (arith, places, block_count cs) in
-      record {
-        inside = rw (curve_bytes_lem cs) room;
-        ordered = omega arith;
-        lengths_inside = k;
-        lengths_ordered = omega arith;
-        sound = λ s ns y z. rw (n, m) (record {
+  -- so they can be lent: as many lengths as it has blocks, of two bytes each, and its part of the store
+  pub content_first : Fits w64 (b.blocks * 2)
+  content_first = record { fits = omega (arith, places, blocks_small cs u) }
+
+  module _ (s ns : List ℕ) (y : SoundCurves cs s) (z : SoundLengths cs ns) where
+    pub blocks_inside : b.bytes + x.size * x.blocks ≤ length s
+    blocks_inside = omega (arith, y.exact, curve_bytes_lem cs, room)
+
+    pub lengths_inside : b.blocks + x.blocks ≤ length ns
+    lengths_inside = omega (arith, places, block_count cs, fitting_count (block_sizes cs) ns z.fit)
+
+    numbers : b.blocks + x.blocks ≤ length (block_sizes cs)
+    numbers = omega (arith, places, block_count cs)
+
+    bytes_count : b.bytes + x.size * x.blocks - b.bytes ≡ x.size * x.blocks
+    bytes_count = add-sub_cancel_left b.bytes (x.size * x.blocks)
+
+    blocks_count : b.blocks + x.blocks - b.blocks ≡ x.blocks
+    blocks_count = add-sub_cancel_left b.blocks x.blocks
+
+    pub content_sound : Blocks x.size (mid_of b.blocks (b.blocks + x.blocks - b.blocks) ns) (mid_of b.bytes (b.bytes + x.size * x.blocks - b.bytes) s)
+    content_sound =
+        rw (bytes_count, blocks_count) (record {
           whole =
-              length_part s b.bytes (x.size * x.blocks) (omega (arith, y.exact, curve_bytes_lem cs, room))
-              ∙ ap (x.size *◌) (sym (length_part ns b.blocks x.blocks (omega (arith, fitting_count (block_sizes cs) ns z.fit))));
-          fit = each_fits (block_sizes cs) ns s x.size z.fit b.blocks x.blocks k one_size;
+              length-take-le (x.size * x.blocks) (drop b.bytes s) (simp length-drop (omega (arith, blocks_inside)))
+              ∙ ap (x.size *◌) (sym (length-take-le x.blocks (drop b.blocks ns) (simp length-drop (omega (arith, lengths_inside)))));
+          fit = each_fits (block_sizes cs) ns s x.size z.fit b.blocks x.blocks numbers one_size;
           small = simp (length-take, length-drop) (omega (arith, y.exact, curve_bytes_lem cs, curves_small cs u));
-        });
-        holds = λ s ns y z. rw (n, m) (
-            ap (λ (i : ℕ). covered x.size (take x.blocks (drop b.blocks ns)) (take (x.size * x.blocks) (drop i s))) (sym starts)
-            ∙ hold (block_sizes cs) ns s x.size z.fit y.exact b.blocks x.blocks k one_size
-            ∙ ap₂ (λ (i : ℕ) (v : Curve). join (map (λ j. take (get_or ns j 0) (get_or (cut (block_sizes cs) s) j [])) (up_from i v.blocks))) there e
-            );
-      }
+        })
 
--- so they can be lent: as many lengths as it has blocks, of two bytes each, and its part of the store
-pub lengths_front : (cs : List Curve) (c : CurveNumber) (x : Content) → ContentAt cs c x → usable_curves cs ≡ true → Fits w64 (x.first * 2)
-lengths_front cs c x w u = record { fits = omega (arith, w.lengths_ordered, w.lengths_inside, block_count cs, blocks_small cs u) }
-
-module _ (cs : List Curve) (c : CurveNumber) (x : Content) (w : ContentAt cs c x) (ns : List ℕ) (z : SoundLengths cs ns) where
-  pub lengths_room : x.end ≤ length ns
-  lengths_room = omega (arith, w.lengths_inside, fitting_count (block_sizes cs) ns z.fit)
-
-  pub content_blocks : (s : List ℕ) → SoundCurves cs s → Blocks x.size (mid_of x.first (x.end - x.first) ns) (mid_of x.from (x.to - x.from) s)
-  unfolding part
-  content_blocks s y = w.sound s ns y z
+    pub content_holds : covered x.size (mid_of b.blocks (b.blocks + x.blocks - b.blocks) ns) (mid_of b.bytes (b.bytes + x.size * x.blocks - b.bytes) s) ≡ content_in cs s ns c
+    content_holds =
+        rw (bytes_count, blocks_count) (
+        ap (λ (i : ℕ). covered x.size (take x.blocks (drop b.blocks ns)) (take (x.size * x.blocks) (drop i s))) (sym starts)
+        ∙ hold (block_sizes cs) ns s x.size z.fit y.exact b.blocks x.blocks numbers one_size
+        ∙ ap₂ (λ (i : ℕ) (v : Curve). join (map (λ j. take (get_or ns j 0) (get_or (cut (block_sizes cs) s) j [])) (up_from i v.blocks))) there e
+        )

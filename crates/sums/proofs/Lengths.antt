@@ -6,8 +6,8 @@ use Prim.Native.Nat.{ℕ, zero, suc, ◌+◌, ◌-◌, ◌*◌, ◌≤◌, ◌<�
 use native.Mathlib.Nat.{add-sub_cancel_left}
 use native.Mathlib.Omega.{arith}
 use native.Mathlib.Numerals.{add-one}
-use lib.ListN.{length, take, drop, set, get_or, replicate, length-append, length-take, length-drop, length-replicate, replicate-append-replicate, drop_of_length-le}
-use lib.Seq.{set_at, take_at, drop_at, drop-drop, drop-cons, take_all}
+use lib.ListN.{length, take, drop, get_or, replicate, length-append, length-take, length-drop, drop_of_length-le}
+use lib.Seq.{take_at, drop_at, drop-drop, take_all}
 use mir.Syntax.{w64}
 use mir.Val.{Fits}
 use borrow.Rule.Slice.PartMut.{mid_of, put_mid}
@@ -21,32 +21,6 @@ use Rattle.curves.specs.Fits.{SoundLengths}
 -- full blocks fit
 pub full_sound : (cs : List Curve) (ns : List ℕ) → usable_curves cs ≡ true → ns ≡ block_sizes cs → SoundLengths cs ns
 full_sound cs ns u e = record { fit = rw e (curves_fit cs u) }
-
--- the walk that makes every length x: the first i are, the others as they were
-module _ (ns₀ : List ℕ) (x : ℕ) where
-  pub record Filling (i : ℕ) (ns : List ℕ) : Type 0 where
-    pub inside : i ≤ length ns₀
-    pub same : length ns ≡ length ns₀
-    pub holds : ns ≡ replicate i x ++ drop i ns₀
-
-  pub filling_start : Filling 0 ns₀
-  filling_start = record { inside = omega arith; same = refl; holds = refl }
-
-  pub filling_next : (n i : ℕ) (ns : List ℕ) → n ≡ length ns₀ → i < n → Filling i ns → Filling (i + 1) (set ns i x)
-  filling_next n i ns e h q =
-      let d : List ℕ = drop (suc i) ns₀ in
-      let w : set ns i x ≡ replicate (i + 1) x ++ drop (i + 1) ns₀ =
-      ap (λ l. set l i x) (q.holds ∙ ap (replicate i x ++◌) (drop-cons ns₀ i 0 (omega arith)))
-      ∙ set_at (replicate i x) (get_or ns₀ i 0) d x i (length-replicate i x)
-      ∙ sym (append_assoc (replicate i x) (x ∷ []) d)
-      ∙ ap₂ ◌++◌ (replicate-append-replicate i 1 x) (ap (λ j. drop j ns₀) (sym (add-one i))) in
-      record { inside = omega arith; same = rw w (rw (length-append, length-replicate, length-drop) (omega arith)); holds = w }
-
-  pub filling_end : (n i : ℕ) (ns : List ℕ) → n ≡ length ns₀ → n ≤ i → Filling i ns → ns ≡ replicate (length ns₀) x
-  filling_end n i ns e h q =
-      let k : drop i ns₀ ≡ [] = drop_of_length-le ns₀ {i = i} (omega arith) in
-      let o : i ≡ length ns₀ = omega (arith, q.inside) in
-      q.holds ∙ ap (replicate i x ++◌) k ∙ append-nil (replicate i x) ∙ ap (λ j. replicate j x) o
 
 -- the walk over all curves: the blocks of the first i, `first` of them, are full, the others' lengths as they were
 sizes_next : (cs : List Curve) (i : ℕ) (x : Curve) → i < length cs → x ≡ get_or cs i blank_curve

@@ -1,4 +1,4 @@
-pub mod Lengths
 pub mod Contents
+pub mod Lengths
 pub mod Summing
 pub mod Sums

@@ -32,17 +32,17 @@ part_on s from at n h =
     ∙ ap (part s from) o
 
 -- the walk over the blocks: fed by what waits, the bytes from `from` to `at`, and by what the blocks from number i on hold, all is fed
-module _ (size : ℕ) (ns s b₀ : List ℕ) (p₀ : Progress) where
+module _ (size : ℕ) (ns s : List ℕ) (p₀ : Progress) where
   abbrev left : (from at i : ℕ) → List ℕ
   left from at i = part s from (at - from) ++ covered size (drop i ns) (drop at s)
 
-  pub record Summing (b : List ℕ) (p : Progress) (from at i : ℕ) : Type 0 where
+  pub record Summing (p : Progress) (from at i : ℕ) : Type 0 where
     pub inside : i ≤ length ns
     pub place : at ≡ size * i
     pub ordered : from ≤ at
-    pub all : fed (held b p) (left from at i) ≡ fed (held b₀ p₀) (covered size ns s)
+    pub all : fed (held p) (left from at i) ≡ fed (held p₀) (covered size ns s)
 
-  pub summing_start : Summing b₀ p₀ 0 0 0
+  pub summing_start : Summing p₀ 0 0 0
   unfolding part
   summing_start = record { inside = omega arith; place = omega arith; ordered = omega arith; all = refl }
 
@@ -57,7 +57,7 @@ module _ (size : ℕ) (ns s b₀ : List ℕ) (p₀ : Progress) where
       ∙ sym (append_assoc (part s from (at - from)) (take n (drop at s)) r)
       ∙ ap (◌++ r) (part_on s from at n o)
 
-  module _ (b : List ℕ) (p : Progress) (from at i : ℕ) (g : Blocks size ns s) (q : Summing b p from at i) where
+  module _ (p : Progress) (from at i : ℕ) (g : Blocks size ns s) (q : Summing p from at i) where
     pub whole_inside : at ≤ length s
     whole_inside = omega (arith, q.place, g.whole, mul-le-mul_left size q.inside)
 
@@ -83,33 +83,33 @@ module _ (size : ℕ) (ns s b₀ : List ℕ) (p₀ : Progress) where
       own_add = record { fits = omega (arith, own_inside, g.small) }
 
       -- a full block only goes on with what waits
-      pub full_next : size ≤ get_or ns i 0 → Summing b p from (at + size) (i + 1)
+      pub full_next : size ≤ get_or ns i 0 → Summing p from (at + size) (i + 1)
       full_next l =
           let o : size ≡ get_or ns i 0 = omega (arith, next_own) in
           record {
             inside = omega arith;
             place = ap (◌+ size) q.place ∙ omega arith;
             ordered = omega (arith, q.ordered);
-            all = ap (fed (held b p)) (sym (left_next from at i size h q.ordered o)) ∙ q.all;
+            all = ap (fed (held p)) (sym (left_next from at i size h q.ordered o)) ∙ q.all;
           }
 
       -- after one that isn't, nothing waits
-      pub short_next : (b' : List ℕ) (p' : Progress) → held b' p' ≡ fed (held b p) (mid_of from (at + get_or ns i 0 - from) s)
-          → Summing b' p' (at + size) (at + size) (i + 1)
+      pub short_next : (p' : Progress) → held p' ≡ fed (held p) (mid_of from (at + get_or ns i 0 - from) s)
+          → Summing p' (at + size) (at + size) (i + 1)
       unfolding part
-      short_next b' p' e =
+      short_next p' e =
           let z : at + size - (at + size) ≡ 0 = omega arith in
           record {
             inside = omega arith;
             place = ap (◌+ size) q.place ∙ omega arith;
             ordered = omega arith;
-            all = rw z (piece_next b b' _ _ _ p p' _ e (left_next from at i (get_or ns i 0) h q.ordered refl) q.all);
+            all = rw z (piece_next _ _ _ p p' _ e (left_next from at i (get_or ns i 0) h q.ordered refl) q.all);
           }
 
-    pub summing_end : length ns ≤ i → (b' r : List ℕ) (p' : Progress) → p₀ ≡ begun → held b' p' ≡ fed (held b p) (mid_of from (at - from) s)
-        → r ≡ closed (held b' p') → r ≡ digest (covered size ns s)
+    pub summing_end : length ns ≤ i → (r : List ℕ) (p' : Progress) → held p₀ ≡ begun → held p' ≡ fed (held p) (mid_of from (at - from) s)
+        → r ≡ closed (held p') → r ≡ digest (covered size ns s)
     unfolding part covered
-    summing_end h b' r p' o e f =
+    summing_end h r p' o e f =
         let k : drop i ns ≡ [] = drop_of_length-le ns {i = i} h in
         let l : left from at i ≡ part s from (at - from) ++ [] = ap (λ (y : List ℕ). part s from (at - from) ++ covered size y (drop at s)) k in
-        pieces_digest b' b₀ _ [] r p' p₀ f (piece_next b b' _ _ [] p p' _ e l q.all) refl o
+        pieces_digest _ [] r p' p₀ f (piece_next _ _ [] p p' _ e l q.all) refl o

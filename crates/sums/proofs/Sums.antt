@@ -25,9 +25,8 @@ use Rattle.bsmp.proofs.Store.{lengths_cut, sum_bytes, sum_size, sum_start}
 use Rattle.lists.proofs.Pieces.{value_part, cut_put}
 use Rattle.parts.specs.Parts.{PayloadAt}
 use Rattle.records.proofs.Sound.{curves_most}
-use Rattle.sums.specs.declared.Content.{Content}
-use Rattle.curves.specs.Fits.{SoundCurves, SoundLengths, SoundSums, CurveNamed}
-use Rattle.sums.specs.Sums.{sums_in, sum_at, SumNamed, covered, content_in, ContentAt, fresh_sums}
+use Rattle.curves.specs.Fits.{SoundSums, CurveNamed}
+use Rattle.sums.specs.Sums.{sums_in, sum_at, SumNamed, content_in, fresh_sums}
 
 sixteens : (cs : List Curve) → length (sum_sizes cs) ≡ length cs
 sixteens cs = length-map cs (λ (y : Curve). let n : ℕ = 16 in n)
@@ -46,14 +45,12 @@ module _ (cs : List Curve) (s : List ℕ) (c : CurveNumber) (z : SoundSums cs s)
   pub sum_room : (d : List ℕ) → length d ≡ 16 → length d ≤ length (mid_of (16 * c.0) (length s - 16 * c.0) s)
   sum_room d n = simp (length-take, length-drop) (omega (arith, sum_inside))
 
-  pub sum_renewed : (store lengths : List ℕ) (x : Content) (d ys : List ℕ) → SoundCurves cs store → SoundLengths cs lengths → ContentAt cs c x
-      → d ≡ digest (covered x.size (mid_of x.first (x.end - x.first) lengths) (mid_of x.from (x.to - x.from) store))
+  pub sum_renewed : (store lengths held d ys : List ℕ) → d ≡ digest held → held ≡ content_in cs store lengths c
       → ys ≡ put (mid_of (16 * c.0) (length s - 16 * c.0) s) 0 d
       → sums_in cs (put_mid (16 * c.0) (length s - 16 * c.0) s ys) ≡ set (sums_in cs s) c.0 (digest (content_in cs store lengths c))
-  unfolding part
-  sum_renewed store lengths x d ys y v w e f =
+  sum_renewed store lengths held d ys e o f =
       let t : List ℕ = content_in cs store lengths c in
-      let m : d ≡ digest t = e ∙ ap digest (w.holds store lengths y v) in
+      let m : d ≡ digest t = e ∙ ap digest o in
       let n : length d ≡ 16 = ap length m ∙ length_digest t in
       ap (cut (sum_sizes cs)) (put_back (16 * c.0) s d ys f (omega (arith, sum_inside)) ∙ ap₂ (put s) (sym (sum_start cs c.0 (omega arith))) m)
       ∙ cut_put (sum_sizes cs) s c.0 (digest t) (rw (sixteens cs) h) (length_digest t ∙ sym (sum_size cs c.0 h)) (omega (arith, z.exact))
@@ -111,16 +108,6 @@ pub fresh_full : (cs : List Curve) (store lengths s : List ℕ) → lengths ≡ 
 fresh_full cs store lengths s e h = h ∙ ap (λ (ns : List ℕ). fresh_sums cs store ns (length cs)) e
 
 -- a sum told
-module _ (s p : List ℕ) (c : CurveNumber) (e : c ≡ curve_at p 0) (h : SumNamed s p) where
-  number : c.0 ≡ byte_at p 0
-  number = ap (λ (x : CurveNumber). x.0) e
-
-  pub told_inside : 16 * c.0 + 16 ≤ length s
-  told_inside = omega (arith, number, h.inside)
-
-  pub told_mul : length s < 18446744073709551616 → Fits w64 (16 * c.0)
-  told_mul l = record { fits = omega (arith, told_inside) }
-
 pub sum_told : (s p : List ℕ) (c : CurveNumber) (r r' : List ℕ) (at : ℕ) → c ≡ curve_at p 0 → SumNamed s p → r' ≡ put r at (part s (16 * c.0) 16)
     → PayloadAt r at (sum_at s (curve_at p 0)) 16 r'
 sum_told s p c r r' at e h w = record {

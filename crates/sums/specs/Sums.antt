@@ -1,14 +1,13 @@
 -- The sums among a board's bytes, what a curve holds, and the sums worked out from it. Assumes nothing.
-use Rattle.std.specs.Prelude.{◌≡◌, true, List, [], ◌∷◌, ◌++◌, map, ℕ, ◌+◌, ◌-◌, ◌*◌, ◌≤◌, ◌<◌, leb, length, take, drop}
+use Rattle.std.specs.Prelude.{◌≡◌, true, List, [], ◌∷◌, ◌++◌, map, ℕ, ◌+◌, ◌*◌, ◌≤◌, ◌<◌, leb, length, take, drop}
 use Rattle.rfc1321.specs.Md5.{digest}
-use Rattle.bsmp.specs.Base.{sum, every, join, up_from, cut, byte_at}
-use Rattle.bsmp.specs.Board.{curve, curve_of, block_sizes, sum_sizes, block_place}
+use Rattle.bsmp.specs.Base.{every, join, up_from, cut, byte_at}
+use Rattle.bsmp.specs.Board.{curve, curve_of, sum_sizes, block_place}
 use Rattle.bsmp.specs.declared.CurveNumber.{CurveNumber}
 use Rattle.bsmp.specs.declared.Curve.{Curve}
 use Rattle.copies.specs.Put.{part}
 use Rattle.parts.specs.Parts.{curves_only}
-use Rattle.curves.specs.Fits.{SoundCurves, SoundLengths, content_at}
-use Rattle.sums.specs.declared.Content.{Content}
+use Rattle.curves.specs.Fits.{content_at}
 
 -- the sums that the bytes hold, a curve's after another's
 abbrev pub sums_in : List Curve → (sums : List ℕ) → List (List ℕ)
@@ -36,17 +35,6 @@ pub record Blocks (size : ℕ) (lengths store : List ℕ) : Type 0 where
   pub whole : length store ≡ size * length lengths
   pub fit : every (λ n. leb n size) lengths ≡ true
   pub small : length store ≤ 65536
-
--- where a curve's blocks and lengths stand: inside, and from end to end
-pub record ContentAt (cs : List Curve) (c : CurveNumber) (x : Content) : Type 0 where
-  pub inside : x.to ≤ sum (block_sizes cs)
-  pub ordered : x.from ≤ x.to
-  pub lengths_inside : x.end ≤ length (block_sizes cs)
-  pub lengths_ordered : x.first ≤ x.end
-  pub sound : (store lengths : List ℕ) → SoundCurves cs store → SoundLengths cs lengths
-      → Blocks x.size (part lengths x.first (x.end - x.first)) (part store x.from (x.to - x.from))
-  pub holds : (store lengths : List ℕ) → SoundCurves cs store → SoundLengths cs lengths
-      → covered x.size (part lengths x.first (x.end - x.first)) (part store x.from (x.to - x.from)) ≡ content_in cs store lengths c
 
 -- the sums of the first n curves, worked out
 abbrev pub fresh_sums : List Curve → (store lengths : List ℕ) → ℕ → List (List ℕ)

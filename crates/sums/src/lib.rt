@@ -1,31 +1,32 @@
 // The sums of curves: 42 renews one, a fresh board has all of them, 0A reads one.
 #![tactic(auto)]
 
-ghost use Rattle.std.specs.Prelude.{◌≡◌, true, ◌+◌, ◌≤◌, ◌<◌, length, set, replicate};
+ghost use Rattle.std.specs.Prelude.{◌≡◌, true, ◌+◌, ◌≤◌, ◌<◌, length, set};
 ghost use Rattle.bsmp.specs.Board.{block_sizes, usable_curves};
 ghost use Rattle.bsmp.specs.Message.{curve_at};
 ghost use Rattle.rfc1321.specs.Md5.{digest};
 ghost use Rattle.parts.specs.Parts.{PayloadAt};
 ghost use Rattle.records.specs.Lending.{curves_of};
 ghost use Rattle.curves.specs.Fits.{SoundCurves, SoundLengths, SoundSums};
-ghost use Rattle.sums.specs.Sums.{sums_in, sum_at, SumNamed, content_in, covered, Blocks, ContentAt, fresh_sums};
+ghost use Rattle.sums.specs.Sums.{sums_in, sum_at, SumNamed, content_in, covered, Blocks, fresh_sums};
 
 use bsmp::CurveNumber;
+use digest::Progress;
 
-// All blocks of a curve: their size, where they stand in the store, and their lengths' places.
+// All blocks of a curve: their size, their part of the store, and their lengths.
 #[derive(Clone, Copy)]
-struct Content {
+struct Content<'a> {
     size: usize,
-    from: usize,
-    to: usize,
-    first: usize,
-    end: usize,
+    blocks: &'a [u8],
+    lengths: &'a [u16],
 }
 
-impl Content {
-    fn of(curves: &[u32], c: CurveNumber) -> Content
-        requires { (usable_curves (curves_of curves.now) ≡ true) × (c.0 < length (curves_of curves.now)) }
-        ensures { ContentAt (curves_of curves.now) c result }
+impl<'a> Content<'a> {
+    fn of(curves: &[u32], blocks: &'a [u8], lengths: &'a [u16], c: CurveNumber) -> Content<'a>
+        requires sound { SoundCurves (curves_of curves.now) blocks.now × SoundLengths (curves_of curves.now) lengths.now }
+        requires known { c.0 < length (curves_of curves.now) }
+        ensures sound { Blocks result.size result.lengths.now result.blocks.now }
+        ensures holds { covered result.size result.lengths.now result.blocks.now ≡ content_in (curves_of curves.now) blocks.now lengths.now c }
     {
         let curve = records::curve_at(curves, c);
         let size = curve.size as usize;
@@ -35,37 +36,34 @@ impl Content {
         let first = before.blocks;
         Content {
             size,
-            from,
-            to: from + size * count,
-            first,
-            end: first + count,
+            blocks: &blocks[from..from + size * count],
+            lengths: &lengths[first..first + count],
         }
     }
-}
 
-// The MD5 of what blocks of this size hold, one after another. Bytes of full blocks go on with those of the next, as one piece; a block that
-// isn't full ends a piece.
-fn summed(blocks: &[u8], lengths: &[u16], size: usize) -> [u8; 16]
-    requires { Blocks size lengths.now blocks.now }
-    ensures { result ≡ digest (covered size lengths.now blocks.now) }
-{
-    let mut buffer = [0u8; 64];
-    let mut progress = digest::begin();
-    let mut from = 0;
-    let mut at = 0;
-    let mut i = 0;
-    while i < lengths.len() {
-        let count = lengths[i] as usize;
-        let next = at + size;
-        if count < size {
-            progress = digest::feed(&mut buffer, progress, &blocks[from..at + count]);
-            from = next;
+    // The MD5 of what the blocks hold, one after another. Bytes of full blocks go on with those of the next, as one piece; a block that isn't full
+    // ends a piece.
+    fn sum(&self) -> [u8; 16]
+        requires { Blocks self.now.size self.now.lengths.now self.now.blocks.now }
+        ensures { result ≡ digest (covered self.now.size self.now.lengths.now self.now.blocks.now) }
+    {
+        let size = self.size;
+        let blocks = self.blocks;
+        let mut progress = Progress::begin();
+        let mut from = 0;
+        let mut at = 0;
+        for n in self.lengths {
+            let count = *n as usize;
+            let next = at + size;
+            if count < size {
+                progress.feed(&blocks[from..at + count]);
+                from = next;
+            }
+            at = next;
         }
-        at = next;
-        i += 1;
+        progress.feed(&blocks[from..at]);
+        progress.finish()
     }
-    progress = digest::feed(&mut buffer, progress, &blocks[from..at]);
-    digest::finish(&mut buffer, progress)
 }
 
 // 42: the sum of a curve, worked out anew from what the curve holds. The others' sums stay.
@@ -76,14 +74,9 @@ pub fn renew(curves: &[u32], blocks: &[u8], lengths: &[u16], sums: &mut [u8], c:
         let sum = digest (content_in curves blocks.now lengths.now c) in
         sums_in curves sums.new ≡ set (sums_in curves sums.old) c.0 sum }
 {
-    let content = Content::of(curves, c);
-    let from = content.from;
-    let to = content.to;
-    let first = content.first;
-    let end = content.end;
-    let sum = summed(&blocks[from..to], &lengths[first..end], content.size);
+    let content = Content::of(curves, blocks, lengths, c);
     let at = 16 * c.0;
-    copies::copy_into(&mut sums[at..], &sum);
+    copies::copy_into(&mut sums[at..], &content.sum());
 }
 
 // All sums, worked out anew.
@@ -93,23 +86,8 @@ fn renew_all(curves: &[u32], blocks: &[u8], lengths: &[u16], sums: &mut [u8])
     ensures { let curves = curves_of curves.now in
         sums_in curves sums.new ≡ fresh_sums curves blocks.now lengths.now (length curves) }
 {
-    let n = records::curve_count(curves);
-    let mut i = 0;
-    while i < n {
+    for i in 0..records::curve_count(curves) {
         renew(curves, blocks, lengths, sums, CurveNumber(i));
-        i += 1;
-    }
-}
-
-// Every length this size.
-fn fill(lengths: &mut [u16], size: u16)
-    ensures { lengths.new ≡ replicate (length lengths.old) size }
-{
-    let n = lengths.len();
-    let mut i = 0;
-    while i < n {
-        lengths[i] = size;
-        i += 1;
     }
 }
 
@@ -118,15 +96,12 @@ fn fill_all(curves: &[u32], lengths: &mut [u16])
     requires { (usable_curves (curves_of curves.now) ≡ true) × (length lengths.old ≡ length (block_sizes (curves_of curves.now))) }
     ensures { lengths.new ≡ block_sizes (curves_of curves.now) }
 {
-    let n = records::curve_count(curves);
     let mut first = 0;
-    let mut i = 0;
-    while i < n {
+    for i in 0..records::curve_count(curves) {
         let curve = records::curve_at(curves, CurveNumber(i));
         let end = first + curve.blocks as usize;
-        fill(&mut lengths[first..end], curve.size as u16);
+        lengths[first..end].fill(curve.size as u16);
         first = end;
-        i += 1;
     }
 }
 

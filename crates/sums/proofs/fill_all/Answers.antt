@@ -18,10 +18,13 @@ slice_bounds-fill-end c = search (all_inside, rules)
 
 pub overflow_cast-curve : goal.overflow_cast-curve
 overflow_cast-curve c =
-    size_short _ _ _ _ c.requires.0 c.curve_count-n.ensures c.loop-i-test.true c.curve_at-curve.ensures
+    size_short _ _ _ _ c.requires.0 c.curve_count-i-end.ensures c.loop-i-test.true c.curve_at-curve.ensures
 
 pub loop-i-preserved : goal.loop-i-preserved
-loop-i-preserved c = search (all_next, rules)
+loop-i-preserved c =
+    let l = c.loop-i in
+    all_next _ _ _ l.i l.first _ _ c.requires.0 c.requires.1 c.curve_count-i-end.ensures c.loop-i-test.true c.curve_at-curve.ensures l.invariant _
+    (c.fill.ensures.after (λ y e. e))
 
 pub returns : goal.returns
 returns c = search (all_end, rules)

@@ -1,17 +1,7 @@
 -- `renew` meets its contract. Assumes nothing.
-use Rattle.sums.proofs.Contents.{lengths_room, lengths_front, content_blocks}
+use Rattle.std.proofs.Common.{rules}
 use Rattle.sums.proofs.Sums.{sum_fits, sum_front, sum_room, sum_renewed}
-use borrow.Author.Rules.{rules}
 use Rattle.sums.proofs.renew.Goals as goal
-
-pub offset_bounds-lengths-first : goal.offset_bounds-lengths-first
-offset_bounds-lengths-first c = search (lengths_front, rules)
-
-pub slice_bounds-summed-end-2 : goal.slice_bounds-summed-end-2
-slice_bounds-summed-end-2 c = search (lengths_room, rules)
-
-pub summed-sum-requires : goal.summed-sum-requires
-summed-sum-requires c = search (content_blocks, rules)
 
 pub overflow_mul-at : goal.overflow_mul-at
 overflow_mul-at c = search (sum_fits, rules)

@@ -1,11 +1,11 @@
--- `summed` meets its contract: one walk over the blocks. Assumes nothing.
+-- `Content::sum` meets its contract: one walk over the blocks. Assumes nothing.
 use Rattle.sums.proofs.Summing.{summing_start, whole_inside, next_fits, own_fits, own_inside, own_add, full_next, short_next, summing_end}
 use borrow.Author.Rules.{rules}
-use Rattle.sums.proofs.summed.Goals as goal
-use Rattle.sums.proofs.summed.Goals.{then-count-size, else-count-size}
+use Rattle.sums.proofs.Content.sum.Goals as goal
+use Rattle.sums.proofs.Content.sum.Goals.{then-count-size, else-count-size}
 
-pub loop-i-init : goal.loop-i-init
-loop-i-init c = search (summing_start, rules)
+pub loop-n-init : goal.loop-n-init
+loop-n-init c = search (summing_start, rules)
 
 pub overflow_cast-count : goal.overflow_cast-count
 overflow_cast-count c = search (own_fits, rules)
@@ -19,11 +19,11 @@ overflow_add-at c = search (own_add, rules)
 pub slice_bounds-feed-end : goal.slice_bounds-feed-end
 slice_bounds-feed-end c = search (own_inside, rules)
 
-pub loop-i-preserved : goal.loop-i-preserved
-loop-i-preserved c =
+pub loop-n-preserved : goal.loop-n-preserved
+loop-n-preserved c =
     elim c.if-count-size.branch [
-      | then-count-size w ↦ rw (w.buffer-is, w.progress-is, w.from-is) (search (short_next, rules))
-      | else-count-size w ↦ rw (w.buffer-is, w.progress-is, w.from-is) (search (full_next, rules))
+      | then-count-size w ↦ rw (w.progress-is, w.from-is, w.at-is) (search (short_next, rules))
+      | else-count-size w ↦ rw (w.progress-is, w.from-is, w.at-is) (search (full_next, rules))
     ]
 
 pub slice_bounds-feed-end-2 : goal.slice_bounds-feed-end-2
