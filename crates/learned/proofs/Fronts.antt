@@ -1,22 +1,21 @@
 -- So many records are the front of their places, as long as there are that many. Assumes nothing.
 use mathlib.Core.Path.{◌≡◌, refl, sym, ap, ap₂, ◌∙◌}
 use mathlib.Core.List.{List, ◌∷◌, map}
-use Prim.Native.Nat.{ℕ, zero, suc, ◌+◌, ◌-◌, ◌*◌, ◌/◌, ◌≤◌, ◌<◌}
+use Prim.Native.Nat.{ℕ, zero, suc, ◌+◌, ◌*◌, ◌/◌, ◌≤◌, ◌<◌}
 use native.Mathlib.Omega.{arith}
 use lib.ListN.{length, take, get_or}
+use mathlib.Core.Bool.{Bool, true, false, cond, and-false}
+use lib.Dec.{leb}
+use Rattle.std.proofs.Common.{Option, Some, None, option_map}
 use lib.Seq.{length-take-le, get_or-take}
-use borrow.Author.Tests.{lt-ltb}
-use borrow.Rule.Slice.PartMut.{mid_of}
+use borrow.Author.Tests.{lt-ltb, leb-true, leb-false, le-leb, lt-leb}
 use Rattle.bsmp.specs.Base.{up_from}
 use Rattle.records.specs.Lending.{numbered, curve_at, function_at, curves_of, functions_of, groups_by, groups_of}
 use Rattle.records.proofs.Walk.{length_numbered}
 use Rattle.records.proofs.Lending.{groups_lent}
-use Rattle.learned.specs.Table.{sizes_in, curves_in, functions_in, Few, table_of, table_in}
+use Rattle.learned.specs.Table.{sizes_in, curves_in, functions_in, has_places, table_in, known_table, held_table}
+use Rattle.learned.specs.declared.LearnedTable.{LearnedTable}
 use Rattle.learned.specs.declared.Known.{Known}
-
--- a front of m places, as it is lent
-pub front : {A : Type 0} (m : ℕ) (l : List A) → mid_of 0 (m - 0) l ≡ take m l
-front m l = let e : m - 0 ≡ m = omega arith in rw e
 
 -- things that agree at each number
 module _ {A : Type 0} (f g : ℕ → A) where
@@ -76,17 +75,81 @@ module _ (n : ℕ) where
           let y : 2 * f + 1 < 2 * n = omega arith in
           rw (lt-ltb _ _ a, lt-ltb _ _ b, get_or-take (2 * n) ns (2 * f) 0 x, get_or-take (2 * n) ns (2 * f + 1) 0 y)
 
--- the whole table, lent by the fronts of its places
-pub table_front : (k : Known) (ss gs cs fs : List ℕ) → Few k → length ss ≡ 64 → length gs ≡ 5 → length cs ≡ 24 → length fs ≡ 32
-    → table_in (mid_of 0 (k.variables - 0) ss) k.writable (mid_of 0 (k.groups - 0) gs) (mid_of 0 (3 * k.curves - 0) cs) (mid_of 0 (2 * k.functions - 0) fs) ≡ table_of k ss gs cs fs
-table_front k ss gs cs fs w a b c d =
-    rw (
-      front k.variables ss,
-      front k.groups gs,
-      front (3 * k.curves) cs,
-      front (2 * k.functions) fs,
-      sizes_front k.variables ss (omega (arith, w.variables)),
-      groups_lent (groups_by k.groups gs) (omega (arith, w.groups)),
-      curves_front k.curves cs (omega (arith, w.curves)),
-      functions_front k.functions fs (omega (arith, w.functions)),
-    )
+-- what a front of places says of the places: there are so many, and it is those
+module _ {A : Type 0} (b : Bool) (s : List A) where
+  pub front_off : None ≡ cond b (Some s) None → b ≡ false
+  front_off e = by b e
+    where
+      by : (b : Bool) → None ≡ cond b (Some s) None → b ≡ false
+      by true e = cc
+      by false e = refl
+
+  pub front_on : (r : List A) → Some r ≡ cond b (Some s) None → (b ≡ true) × (r ≡ s)
+  front_on r e = by b e
+    where
+      by : (b : Bool) → Some r ≡ cond b (Some s) None → (b ≡ true) × (r ≡ s)
+      by true e = (refl, cc)
+      by false e = cc
+
+-- the table, lent by its fronts, as far as there are places
+abbrev Told : LearnedTable → Option Known → Type 0
+Told t r = option_map known_table r ≡ cond (has_places t) (Some (held_table t)) None
+
+abbrev Front : {A : Type 0} (r : Option (List A)) (l : List A) (n k : ℕ) → Type 0
+Front r l n k = r ≡ cond (leb (n * k) (length l)) (Some (take (n * k) l)) None
+
+module _ (t : LearnedTable) where
+  nothing : (r : Option Known) → r ≡ None → has_places t ≡ false → Told t r
+  nothing r e h = rw (e, h)
+
+  pub no_sizes : (r : Option Known) → r ≡ None → length t.sizes ≡ 64 → Front None t.sizes t.variables 1 → Told t r
+  unfolding has_places
+  no_sizes r e l h = let o : 64 < t.variables = omega (arith, leb-false _ _ (front_off _ _ h)) in nothing r e (rw (lt-leb t.variables 64 o))
+
+  pub no_sets : (r : Option Known) → r ≡ None → length t.sets ≡ 5 → Front None t.sets t.groups 1 → Told t r
+  unfolding has_places
+  no_sets r e l h = let o : 5 < t.groups = omega (arith, leb-false _ _ (front_off _ _ h)) in nothing r e (simp (lt-leb t.groups 5 o, and-false))
+
+  pub no_shapes : (r : Option Known) → r ≡ None → length t.shapes ≡ 24 → Front None t.shapes t.curves 3 → Told t r
+  unfolding has_places
+  no_shapes r e l h = let o : 8 < t.curves = omega (arith, leb-false _ _ (front_off _ _ h)) in nothing r e (simp (lt-leb t.curves 8 o, and-false))
+
+  pub no_calls : (r : Option Known) → r ≡ None → length t.calls ≡ 32 → Front None t.calls t.functions 2 → Told t r
+  unfolding has_places
+  no_calls r e l h = let o : 16 < t.functions = omega (arith, leb-false _ _ (front_off _ _ h)) in nothing r e (simp (lt-leb t.functions 16 o, and-false))
+
+  pub all_fronts : (ss gs cs fs : List ℕ) → length t.sizes ≡ 64 → length t.sets ≡ 5 → length t.shapes ≡ 24 → length t.calls ≡ 32
+      → Front (Some ss) t.sizes t.variables 1 → Front (Some gs) t.sets t.groups 1 → Front (Some cs) t.shapes t.curves 3 → Front (Some fs) t.calls t.functions 2
+      → Some (table_in ss t.writable gs cs fs) ≡ cond (has_places t) (Some (held_table t)) None
+  unfolding has_places
+  all_fronts ss gs cs fs x y z w a b c d =
+      let v = front_on _ _ ss a in
+      let g = front_on _ _ gs b in
+      let n = front_on _ _ cs c in
+      let f = front_on _ _ fs d in
+      let vl : t.variables ≤ 64 = omega (arith, leb-true _ _ v.0) in
+      let gl : t.groups ≤ 5 = omega (arith, leb-true _ _ g.0) in
+      let nl : t.curves ≤ 8 = omega (arith, leb-true _ _ n.0) in
+      let fl : t.functions ≤ 16 = omega (arith, leb-true _ _ f.0) in
+      let v1 : t.variables * 1 ≡ t.variables = omega arith in
+      let g1 : t.groups * 1 ≡ t.groups = omega arith in
+      let n3 : t.curves * 3 ≡ 3 * t.curves = omega arith in
+      let f2 : t.functions * 2 ≡ 2 * t.functions = omega arith in
+      rw (
+        le-leb t.variables 64 vl,
+        le-leb t.groups 5 gl,
+        le-leb t.curves 8 nl,
+        le-leb t.functions 16 fl,
+        v.1,
+        g.1,
+        n.1,
+        f.1,
+        v1,
+        g1,
+        n3,
+        f2,
+        sizes_front t.variables t.sizes (omega arith),
+        groups_lent (groups_by t.groups t.sets) (omega arith),
+        curves_front t.curves t.shapes (omega arith),
+        functions_front t.functions t.calls (omega arith),
+      )

@@ -1,28 +1,28 @@
 -- What the tests of the learned table meet, one return at a time. Assumes nothing.
-use mathlib.Core.Path.{◌≡◌, refl, sym, ap, ◌∙◌}
-use mathlib.Core.Bool.{Bool, true, false, not, ◌&&◌, and-false, and-true as and-on}
+use mathlib.Core.Path.{◌≡◌, refl, ap, ◌∙◌}
+use mathlib.Core.Bool.{Bool, true, false, cond, ◌&&◌, and-false}
+use Rattle.std.proofs.Common.{Option, Some, None, option_map}
 use mathlib.Core.List.{List, [], ◌∷◌, map}
-use Prim.Native.Nat.{ℕ, ◌-◌, ◌*◌, ◌%◌, ◌≤◌, ◌<◌}
+use Prim.Native.Nat.{ℕ, ◌%◌, ◌≤◌}
 use native.Mathlib.Omega.{arith}
 use lib.Dec.{leb}
 use lib.ListN.{length, get_or}
-use borrow.Author.Tests.{leb-true, lt-leb, not-true, not-false}
-use borrow.Rule.Slice.PartMut.{mid_of}
+use borrow.Author.Tests.{leb-true, le-leb}
 use Rattle.bsmp.specs.Base.{every}
 use Rattle.bsmp.specs.Board.{usable_size, usable_curves, usable_functions, usable_groups}
-use Rattle.bsmp.proofs.Bools.{and_true, all_at, bool_eq}
-use Rattle.asking.specs.Learned.{size_rules, usable_sizes, usable_learned}
+use Rattle.bsmp.proofs.Bools.{and_true, all_at, bool_eq, not_so}
+use Rattle.asking.specs.Learned.{Learned, size_rules, usable_sizes, usable_learned}
 use Rattle.records.specs.Lending.{curves_of, functions_of, groups_by, groups_of}
-use Rattle.records.proofs.Bounds.{inside, usable_function}
+use Rattle.records.proofs.Bounds.{inside}
 use Rattle.records.proofs.Lending.{made_count}
 use Rattle.records.proofs.Sound.{curves_most, functions_most, groups_most}
 use Rattle.rules.specs.declared.CurveTotal.{CurveTotal}
 use Rattle.rules.specs.Totals.{curves_total}
-use Rattle.rules.proofs.Checks.{curves_many, too_many}
 use Rattle.rules.proofs.Totals.{curves_usable}
-use Rattle.learned.specs.Table.{sizes_in, curves_in, functions_in, Few, table_of}
+use Rattle.learned.specs.Table.{has_places, known_table, held_table}
+use Rattle.learned.specs.declared.LearnedTable.{LearnedTable}
 use Rattle.learned.specs.declared.Known.{Known}
-use Rattle.learned.proofs.Fronts.{front, size_count, curve_count, function_count, sizes_front, curves_front, functions_front}
+use Rattle.learned.proofs.Fronts.{size_count, curve_count, function_count}
 
 -- bytes of at most 127 are sizes themselves, and no size is above
 low_sizes : (l : List ℕ) → every (λ b. leb b 127) l ≡ true → map (λ b. b % 128) l ≡ l
@@ -50,63 +50,93 @@ all_sizes l = bool_eq _ _ there back
         let o : every (λ b. leb b 127) l ≡ true = sizes_low l (all_at (size_rules l) h 1) in
         rw (o, low_sizes l o) h
 
--- variables, curves and functions
-module _ (n : ℕ) (l : List ℕ) where
-  pub variables_over : 64 < n → false ≡ usable_sizes (sizes_in n l)
-  unfolding usable_sizes
-  variables_over h = rw (← size_count n l, lt-leb n 64 h, and-false (leb 1 n))
+module _ (t : LearnedTable) where
+  abbrev x : Learned
+  x = held_table t
 
-  pub variables_told : (r : Bool) → n ≤ 64 → length l ≡ 64 → r ≡ (every (λ b. leb b 127) (mid_of 0 (n - 0) l) && usable_sizes (map (λ b. b % 128) (mid_of 0 (n - 0) l))) → r ≡ usable_sizes (sizes_in n l)
-  variables_told r h k e = e ∙ all_sizes (mid_of 0 (n - 0) l) ∙ ap usable_sizes (front n l ∙ sym (sizes_front n l (omega arith)))
+  -- one that keeps the limits has no more of each than there are places
+  few : usable_learned (held_table t) ≡ true → has_places t ≡ true
+  unfolding usable_learned usable_sizes has_places
+  few h =
+      let parts : List Bool = usable_sizes x.layout.sizes ∷ usable_curves x.layout.curves ∷ usable_functions x.layout.functions ∷ usable_groups (length x.layout.sizes) x.groups ∷ [] in
+      let at : (i : ℕ) → get_or parts i true ≡ true = all_at parts h in
+      let v : t.variables ≤ 64 = omega (arith, size_count t.variables t.sizes, inside 1 64 (length x.layout.sizes) (all_at (size_rules x.layout.sizes) (at 0) 0)) in
+      let g : t.groups ≤ 5 = omega (arith, made_count t.groups t.sets, groups_most (length x.layout.sizes) x.groups (at 3)) in
+      let c : t.curves ≤ 8 = omega (arith, curve_count t.curves t.shapes, curves_most x.layout.curves (at 1)) in
+      let f : t.functions ≤ 16 = omega (arith, function_count t.functions t.calls, functions_most x.layout.functions (at 2)) in
+      rw (le-leb t.variables 64 v, le-leb t.groups 5 g, le-leb t.curves 8 c, le-leb t.functions 16 f)
 
-  pub curves_over : 8 < n → false ≡ usable_curves (curves_in n l)
-  curves_over h = sym (curves_many (curves_in n l) n (curve_count n l) h)
+  pub no_places : (r : Option Known) → r ≡ None → None ≡ cond (has_places t) (Some x) None → option_map known_table r ≡ cond (usable_learned x) (Some x) None
+  no_places r e h =
+      let o : usable_learned x ≡ false = not_so (usable_learned x) (λ u. absurd (places_none (has_places t) (few u) h)) in
+      rw (e, o)
+    where
+      places_none : (b : Bool) → b ≡ true → None ≡ cond b (Some x) None → ⊥
+      places_none true e h = cc
+      places_none false e h = cc
 
-  pub curves_told : (r : CurveTotal) → n ≤ 8 → length l ≡ 24 → r ≡ curves_total (curves_of (mid_of 0 (3 * n - 0) l)) → r.usable ≡ usable_curves (curves_in n l)
-  curves_told r h k e = curves_usable _ _ r e ∙ ap (λ x. usable_curves (curves_of x)) (front (3 * n) l) ∙ ap usable_curves (sym (curves_front n l (omega arith)))
+  -- what is known, as long as there are places
+  module _ (k : Known) (e : Some (known_table k) ≡ cond (has_places t) (Some x) None) where
+    same : (b : Bool) (y : Learned) → Some y ≡ cond b (Some x) None → y ≡ x
+    same true y h = cc
+    same false y h = cc
 
-  pub functions_over : 16 < n → false ≡ usable_functions (functions_in n l)
-  unfolding usable_functions
-  functions_over h = too_many usable_function (functions_in n l) 16 n (function_count n l) h
+    all : known_table k ≡ x
+    all = same (has_places t) (known_table k) e
 
-  pub functions_told : (r : Bool) → n ≤ 16 → length l ≡ 32 → r ≡ usable_functions (functions_of (mid_of 0 (2 * n - 0) l)) → r ≡ usable_functions (functions_in n l)
-  functions_told r h k e = e ∙ ap (λ x. usable_functions (functions_of x)) (front (2 * n) l) ∙ ap usable_functions (sym (functions_front n l (omega arith)))
+    Unusable : Type 0
+    Unusable = None ≡ cond (usable_learned x) (Some x) None
 
--- the whole table: v, c, f and g are what the tests of its parts gave
-module _ (k : Known) (ss gs cs fs : List ℕ) (v : Bool) (ve : v ≡ usable_sizes (sizes_in k.variables ss)) where
-  abbrev Tells : Bool → Type 0
-  Tells r = r ≡ usable_learned (table_of k ss gs cs fs)
+    -- what the tests of its parts gave
+    module _ (v : Bool) (ve : v ≡ (every (λ b. leb b 127) k.sizes.now && usable_sizes (map (λ b. b % 128) k.sizes.now))) where
+      sizes : v ≡ usable_sizes x.layout.sizes
+      sizes = ve ∙ all_sizes k.sizes.now ∙ ap (λ (y : Learned). usable_sizes y.layout.sizes) all
 
-  pub table_variables : not v ≡ true → Tells false
-  unfolding usable_learned
-  table_variables h = rw (← ve, not-true v h)
-
-  module _ (vh : not v ≡ false) (c : Bool) (ce : c ≡ usable_curves (curves_in k.curves cs)) where
-    pub table_curves : not c ≡ true → Tells false
-    unfolding usable_learned
-    table_curves h = rw (← ve, not-false v vh, ← ce, not-true c h)
-
-    module _ (ch : not c ≡ false) (f : Bool) (fe : f ≡ usable_functions (functions_in k.functions fs)) where
-      pub table_functions : not f ≡ true → Tells false
+      pub bad_sizes : v ≡ false → None ≡ cond (usable_learned x) (Some x) None
       unfolding usable_learned
-      table_functions h = rw (← ve, not-false v vh, ← ce, not-false c ch, ← fe, not-true f h)
+      bad_sizes h = rw (← sizes, h)
 
-      pub table_groups : not f ≡ false → (g : Bool) → g ≡ usable_groups k.variables (groups_of (groups_by k.groups gs)) → Tells g
-      unfolding usable_learned
-      table_groups h g e =
-          rw (← ve, not-false v vh, ← ce, not-false c ch, ← fe, not-false f h, ← size_count k.variables ss, ← e) (sym (and-on g))
+      module _ (c : CurveTotal) (ce : c ≡ curves_total (curves_of k.shapes.now)) where
+        curves : c.usable ≡ usable_curves x.layout.curves
+        curves = curves_usable _ _ c ce ∙ ap (λ (y : Learned). usable_curves y.layout.curves) all
 
--- a usable table has no more than its places
-pub table_few : (k : Known) (ss gs cs fs : List ℕ) (u : Bool) → u ≡ usable_learned (table_of k ss gs cs fs) → not u ≡ false → Few k
+        pub bad_curves : c.usable ≡ false → None ≡ cond (usable_learned x) (Some x) None
+        unfolding usable_learned
+        bad_curves h = simp (← curves, h, and-false)
+
+        module _ (f : Bool) (fe : f ≡ usable_functions (functions_of k.calls.now)) where
+          functions : f ≡ usable_functions x.layout.functions
+          functions = fe ∙ ap (λ (y : Learned). usable_functions y.layout.functions) all
+
+          pub bad_functions : f ≡ false → None ≡ cond (usable_learned x) (Some x) None
+          unfolding usable_learned
+          bad_functions h = simp (← functions, h, and-false)
+
+          module _ (g : Bool) (ge : g ≡ usable_groups (length k.sizes.now) (groups_of (groups_by t.groups t.sets))) where
+            groups : g ≡ usable_groups (length x.layout.sizes) x.groups
+            groups = ge ∙ ap (λ (y : Learned). usable_groups (length y.layout.sizes) x.groups) all
+
+            pub bad_groups : g ≡ false → None ≡ cond (usable_learned x) (Some x) None
+            unfolding usable_learned
+            bad_groups h = simp (← groups, h, and-false)
+
+            pub all_good : v ≡ true → c.usable ≡ true → f ≡ true → g ≡ true → Some (known_table k) ≡ cond (usable_learned x) (Some x) None
+            unfolding usable_learned
+            all_good a b d o = rw (all, ← sizes, ← curves, ← functions, ← groups, a, b, d, o)
+
+-- what is known of a usable table has at most 64 sizes
+few_held : (x : Learned) → usable_learned x ≡ true → length x.layout.sizes ≤ 64
 unfolding usable_learned usable_sizes
-table_few k ss gs cs fs u e h =
-    let ns : List ℕ = sizes_in k.variables ss in
-    let made : List ℕ = groups_of (groups_by k.groups gs) in
-    let parts : List Bool = usable_sizes ns ∷ usable_curves (curves_in k.curves cs) ∷ usable_functions (functions_in k.functions fs) ∷ usable_groups (length ns) made ∷ [] in
-    let at : (i : ℕ) → get_or parts i true ≡ true = all_at parts (sym e ∙ not-false u h) in
-    record {
-      variables = omega (arith, size_count k.variables ss, inside 1 64 (length ns) (all_at (size_rules ns) (at 0) 0));
-      groups = omega (arith, made_count k.groups gs, groups_most (length ns) made (at 3));
-      curves = omega (arith, curve_count k.curves cs, curves_most (curves_in k.curves cs) (at 1));
-      functions = omega (arith, function_count k.functions fs, functions_most (functions_in k.functions fs) (at 2));
-    }
+few_held x h =
+    let parts : List Bool = usable_sizes x.layout.sizes ∷ usable_curves x.layout.curves ∷ usable_functions x.layout.functions ∷ usable_groups (length x.layout.sizes) x.groups ∷ [] in
+    (inside 1 64 (length x.layout.sizes) (all_at (size_rules x.layout.sizes) (all_at parts h 0) 0)).1
+
+pub few_sizes : (x : Learned) (k : Known) → Some (known_table k) ≡ cond (usable_learned x) (Some x) None → length k.sizes.now ≤ 64
+few_sizes x k e = by (usable_learned x) refl e
+  where
+    by : (b : Bool) → usable_learned x ≡ b → Some (known_table k) ≡ cond b (Some x) None → length k.sizes.now ≤ 64
+    by true u h =
+        let s : known_table k ≡ x = cc in
+        let l : length k.sizes.now ≡ length x.layout.sizes = ap (λ (y : Learned). length y.layout.sizes) s in
+        omega (arith, few_held x u)
+    by false u h = cc

@@ -1,25 +1,14 @@
 // What is learned of a node, as the gateway keeps it: numbers and places for them; and whether the table keeps 01's limits.
 #![tactic(auto)]
 
-ghost use Rattle.std.specs.Prelude.{◌≡◌, ◌&&◌, map, ◌%◌, leb};
+ghost use Rattle.std.specs.Prelude.{◌≡◌, ◌&&◌, ◌*◌, Some, None, cond, map, ◌%◌, leb, length, take, option_map};
 ghost use Rattle.bsmp.specs.Base.{every};
-ghost use Rattle.bsmp.specs.Board.{usable_curves, usable_functions};
 ghost use Rattle.asking.specs.Learned.{usable_sizes, usable_learned};
-ghost use Rattle.learned.specs.Table.{sizes_in, curves_in, functions_in, table_of};
+ghost use Rattle.learned.specs.Table.{has_places, known_table, held_table};
 
-// How much is known: so many variables, the writable ones as marks, so many made groups, curves and functions. Their records stand in places
-// lent beside it: a size for each variable, a set for each group, three numbers for each curve (type, block size, blocks) and two for each
-// function (input, output). Of the places, and of the marks, past a count nothing counts.
-#[derive(Clone, Copy)]
-pub struct Known {
-    pub variables: u64,
-    pub writable: u64,
-    pub groups: u64,
-    pub curves: u64,
-    pub functions: u64,
-}
-
-// The table in one struct, as a gateway lends it.
+// How much is known: so many variables, the writable ones as marks, so many made groups, curves and functions. Their records stand in the
+// places behind: a set for each group, three numbers for each curve (type, block size, blocks), a size for each variable and two for each
+// function (input, output). Of the places, and of the marks, past a count nothing counts. Its layout is the C face's.
 #[repr(C)]
 #[derive(Drop)]
 pub struct LearnedTable {
@@ -34,15 +23,14 @@ pub struct LearnedTable {
     pub calls: [u8; 32],
 }
 
-impl Known {
-    // nothing is learned yet
-    pub const NONE: Known = Known {
-        variables: 0,
-        writable: 0,
-        groups: 0,
-        curves: 0,
-        functions: 0,
-    };
+// What is known of a node, lent by the fronts of the places.
+#[derive(Clone, Copy)]
+pub struct Known<'a> {
+    pub sizes: &'a [u8],
+    pub writable: u64,
+    pub sets: &'a [u64],
+    pub shapes: &'a [u32],
+    pub calls: &'a [u8],
 }
 
 // Whether there are 1 to 64 sizes of 1 to 127, together at most 4,096. A size is the low seven bits of a byte, as in list 03; no byte is
@@ -50,83 +38,55 @@ impl Known {
 pub fn usable_sizes(list: &[u8], most: u8) -> bool
     ensures { let l = list.now in result ≡ (every (λ b. leb b most) l && usable_sizes (map (λ b. b % 128) l)) }
 {
-    let n = list.len();
-    if n < 1 {
-        return false;
-    }
-    if 64 < n {
+    if list.len() < 1 || 64 < list.len() {
         return false;
     }
     let mut bytes: u32 = 0;
-    let mut i = 0;
-    while i < n {
-        let byte = list[i];
-        if most < byte {
-            return false;
-        }
+    for byte in list {
         let size = byte % 128;
-        if size < 1 {
+        if most < *byte || size < 1 {
             return false;
         }
-        bytes += size as u32;
-        i += 1;
+        bytes += u32::from(size);
     }
     bytes <= 4096
 }
 
-// The limits of the learned variables, curves and functions, whose counts may be anything.
-fn usable_variables(count: u64, sizes: &[u8; 64]) -> bool
-    ensures { result ≡ usable_sizes (sizes_in count sizes.now) }
+// The first so many records of places, `width` places each; none where there are not so many.
+fn front<T>(places: &[T], count: u64, width: usize) -> Option<&[T]>
+    ensures { let n = count * width in
+        option_map (λ s. s.now) result ≡ cond (leb n (length places.now)) (Some (take n places.now)) None }
 {
-    if 64 < count {
-        return false;
-    }
-    let n = count as usize;
-    let places = &sizes[..];
-    usable_sizes(&places[0..n], 127)
+    let n = usize::try_from(count).ok()?.checked_mul(width)?;
+    places.get(..n)
 }
 
-fn usable_curves(count: u64, curves: &[u32; 24]) -> bool
-    ensures { result ≡ usable_curves (curves_in count curves.now) }
-{
-    if 8 < count {
-        return false;
+impl LearnedTable {
+    // What is known, where the counts are no more than there are places.
+    fn fronts(&self) -> Option<Known<'_>>
+        ensures { let t = self.now in option_map known_table result ≡ cond (has_places t) (Some (held_table t)) None }
+    {
+        Some(Known {
+            sizes: front(&self.sizes, self.variables, 1)?,
+            writable: self.writable,
+            sets: front(&self.sets, self.groups, 1)?,
+            shapes: front(&self.shapes, self.curves, 3)?,
+            calls: front(&self.calls, self.functions, 2)?,
+        })
     }
-    let n = 3 * count as usize;
-    let places = &curves[..];
-    rules::usable_curves(&places[0..n]).usable
-}
 
-fn usable_functions(count: u64, functions: &[u8; 32]) -> bool
-    ensures { result ≡ usable_functions (functions_in count functions.now) }
-{
-    if 16 < count {
-        return false;
+    // What is known, in a table that keeps 01's limits, whatever its counts are; none in any other.
+    pub fn known(&self) -> Option<Known<'_>>
+        ensures { let x = held_table self.now in option_map known_table result ≡ cond (usable_learned x) (Some x) None }
+    {
+        let known = self.fronts()?;
+        if !usable_sizes(known.sizes, 127)
+            || !rules::usable_curves(known.shapes).usable
+            || !rules::usable_functions(known.calls)
+            || !rules::usable_groups(self.groups, &self.sets, known.sizes.len())
+        {
+            return None;
+        }
+        Some(known)
     }
-    let n = 2 * count as usize;
-    let places = &functions[..];
-    rules::usable_functions(&places[0..n])
-}
-
-// The limits of the whole table.
-pub fn usable_table(
-    known: Known,
-    sizes: &[u8; 64],
-    sets: &[u64; 5],
-    curves: &[u32; 24],
-    functions: &[u8; 32],
-) -> bool
-    ensures { result ≡ usable_learned (table_of known sizes.now sets.now curves.now functions.now) }
-{
-    if !usable_variables(known.variables, sizes) {
-        return false;
-    }
-    if !usable_curves(known.curves, curves) {
-        return false;
-    }
-    if !usable_functions(known.functions, functions) {
-        return false;
-    }
-    let n = known.variables as usize;
-    rules::usable_groups(known.groups, sets, n)
 }
