@@ -26,7 +26,7 @@ pub fn done(code: u8, payload: &[u8]) -> Result<Told, Refusal>
 }
 
 // 01: 02 14 00.
-#[tactic(auto, unfolding(asking::specs::Reply::answers, asking::specs::Reply::tells))]
+#[tactic(auto, unfolding(asking::specs::Reply::answers, asking::specs::Reply::tells), using(crate::proofs::Three::three_count))]
 pub fn version(code: u8, payload: &[u8]) -> Result<Told, Refusal>
     ensures { result ≡ told_of (answered blank version code payload.now) }
 {
@@ -47,6 +47,7 @@ fn bytes_told(want: u8, size: usize, code: u8, payload: &[u8]) -> Result<Told, R
 }
 
 // 11 of a variable that the table has.
+#[tactic(auto, using(crate::proofs::Values::variable_unknown, crate::proofs::Values::variable_told))]
 pub fn variable_told(
     sizes: &[u8],
     i: VariableNumber,
@@ -56,11 +57,14 @@ pub fn variable_told(
     ensures { let x = table_in sizes.now 0 [] [] [] in
         result ≡ told_of (answered x (values (not (no_variable x.layout i)) 0x11 (i ∷ [])) code payload.now) }
 {
-    let size = *sizes.get(i.0).ok_or(Refusal::ReplyUnfit)?;
-    bytes_told(0x11, usize::from(size), code, payload)
+    match sizes.get(i.0) {
+        Some(size) => bytes_told(0x11, usize::from(*size), code, payload),
+        None => Err(Refusal::ReplyUnfit),
+    }
 }
 
 // 13 of a group that the table has.
+#[tactic(auto, using(crate::proofs::Values::group_unknown))]
 pub fn group_told(
     sizes: &[u8],
     writable: u64,
@@ -106,12 +110,7 @@ pub fn block_told(
 
 // 0B: 16 bytes.
 #[tactic(auto, unfolding(asking::specs::Reply::answers, asking::specs::Reply::tells))]
-pub fn sum_told(
-    curves: &[u32],
-    c: CurveNumber,
-    code: u8,
-    payload: &[u8],
-) -> Result<Told, Refusal>
+pub fn sum_told(curves: &[u32], c: CurveNumber, code: u8, payload: &[u8]) -> Result<Told, Refusal>
     ensures { result ≡ told_of (answered (table_in [] 0 [] curves.now []) (digest c) code payload.now) }
 {
     if records::curve_count(curves) <= c.0 || code != 0x0B || payload.len() != 16 {

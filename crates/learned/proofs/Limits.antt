@@ -1,7 +1,8 @@
 -- What the tests of the learned table meet, one return at a time. Assumes nothing.
 use mathlib.Core.Path.{◌≡◌, refl, ap, ◌∙◌}
 use mathlib.Core.Bool.{Bool, true, false, cond, ◌&&◌, and-false}
-use Rattle.std.proofs.Common.{Option, Some, None, option_map}
+use Rattle.std.proofs.Common.{Option, Some, None, is_some, option_map}
+use Rattle.std.specs.Bool.{then_some}
 use mathlib.Core.List.{List, [], ◌∷◌, map}
 use Prim.Native.Nat.{ℕ, ◌%◌, ◌≤◌}
 use native.Mathlib.Omega.{arith}
@@ -17,8 +18,7 @@ use Rattle.records.proofs.Bounds.{inside}
 use Rattle.records.proofs.Lending.{made_count}
 use Rattle.records.proofs.Sound.{curves_most, functions_most, groups_most}
 use Rattle.rules.specs.declared.CurveTotal.{CurveTotal}
-use Rattle.rules.specs.Totals.{curves_total}
-use Rattle.rules.proofs.Totals.{curves_usable}
+use Rattle.rules.specs.Totals.{curve_total, curves_total}
 use Rattle.learned.specs.Table.{has_places, known_table, held_table}
 use Rattle.learned.specs.declared.LearnedTable.{LearnedTable}
 use Rattle.learned.specs.declared.Known.{Known}
@@ -96,11 +96,15 @@ module _ (t : LearnedTable) where
       unfolding usable_learned
       bad_sizes h = rw (← sizes, h)
 
-      module _ (c : CurveTotal) (ce : c ≡ curves_total (curves_of k.shapes.now)) where
-        curves : c.usable ≡ usable_curves x.layout.curves
-        curves = curves_usable _ _ c ce ∙ ap (λ (y : Learned). usable_curves y.layout.curves) all
+      module _ (c : Option CurveTotal) (ce : c ≡ curves_total (curves_of k.shapes.now)) where
+        curves : is_some c ≡ usable_curves x.layout.curves
+        curves = ap is_some ce ∙ some_if (usable_curves (curves_of k.shapes.now)) ∙ ap (λ (y : Learned). usable_curves y.layout.curves) all
+          where
+            some_if : (b : Bool) → is_some (then_some b (curve_total (curves_of k.shapes.now))) ≡ b
+            some_if true = refl
+            some_if false = refl
 
-        pub bad_curves : c.usable ≡ false → None ≡ cond (usable_learned x) (Some x) None
+        pub bad_curves : is_some c ≡ false → None ≡ cond (usable_learned x) (Some x) None
         unfolding usable_learned
         bad_curves h = simp (← curves, h, and-false)
 
@@ -120,7 +124,7 @@ module _ (t : LearnedTable) where
             unfolding usable_learned
             bad_groups h = simp (← groups, h, and-false)
 
-            pub all_good : v ≡ true → c.usable ≡ true → f ≡ true → g ≡ true → Some (known_table k) ≡ cond (usable_learned x) (Some x) None
+            pub all_good : v ≡ true → is_some c ≡ true → f ≡ true → g ≡ true → Some (known_table k) ≡ cond (usable_learned x) (Some x) None
             unfolding usable_learned
             all_good a b d o = rw (all, ← sizes, ← curves, ← functions, ← groups, a, b, d, o)
 

@@ -6,6 +6,8 @@ ghost use Rattle.bsmp.specs.Base.{every};
 ghost use Rattle.asking.specs.Learned.{usable_sizes, usable_learned};
 ghost use Rattle.learned.specs.Table.{has_places, known_table, held_table};
 
+use records::Groups;
+
 // How much is known: so many variables, the writable ones as marks, so many made groups, curves and functions. Their records stand in the
 // places behind: a set for each group, three numbers for each curve (type, block size, blocks), a size for each variable and two for each
 // function (input, output). Of the places, and of the marks, past a count nothing counts. Its layout is the C face's.
@@ -80,10 +82,14 @@ impl LearnedTable {
         ensures { let x = held_table self.now in option_map known_table result ≡ cond (usable_learned x) (Some x) None }
     {
         let known = self.fronts()?;
+        let groups = Groups {
+            count: self.groups,
+            sets: self.sets,
+        };
         if !usable_sizes(known.sizes, 127)
-            || !rules::usable_curves(known.shapes).usable
+            || rules::usable_curves(known.shapes).is_none()
             || !rules::usable_functions(known.calls)
-            || !rules::usable_groups(self.groups, &self.sets, known.sizes.len())
+            || !rules::usable_groups(&groups, known.sizes.len())
         {
             return None;
         }
