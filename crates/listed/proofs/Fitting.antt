@@ -1,42 +1,28 @@
 -- What the tests of the lists come to. Assumes nothing.
 use mathlib.Core.Path.{◌≡◌, refl, sym, ◌∙◌}
-use mathlib.Core.Bool.{Bool, true, false, ◌&&◌, and-true as and-on}
+use mathlib.Core.Bool.{Bool, true, false, ◌&&◌}
 use mathlib.Core.List.{List, [], ◌∷◌, map}
-use Prim.Native.Nat.{ℕ, suc, ◌/◌, ◌%◌, ◌≤◌}
+use Prim.Native.Nat.{ℕ, suc, ◌*◌, ◌/◌, ◌%◌, ◌≤◌, ◌<◌}
 use native.Mathlib.Omega.{arith}
-use lib.Dec.{leb}
+use lib.Dec.{leb, eqb}
 use lib.ListN.{length, get_or, length-map}
-use borrow.Author.Tests.{le-leb, eq-eqb, ne_eqb}
+use borrow.Author.Tests.{le-leb, lt-leb, eqb-true}
 use mir.Syntax.{w8}
 use mir.Val.{Fits}
+pub use Rattle.std.proofs.lemmas.Grind.{common_steps}
 use Rattle.bsmp.specs.Base.{every}
-use Rattle.bsmp.specs.Board.{usable_functions}
-use Rattle.asking.specs.Learned.{usable_sizes, slot_of, blocks_of, functions_from}
-use Rattle.asking.specs.declared.Told.TheVariants as T
-
--- r says of two tests at once whether both pass
-module _ (a b c r : Bool) (e : r ≡ (b && c)) where
-  pub pair_on : a ≡ true → r ≡ true → ((a && b) && c) ≡ true
-  pair_on h k = rw h (sym e ∙ k)
-
-  pub pair_off : r ≡ false → ((a && b) && c) ≡ false
-  pair_off k = by a b c (sym e ∙ k)
-    where
-      by : (a b c : Bool) → (b && c) ≡ false → ((a && b) && c) ≡ false
-      by true b c h = h
-      by false b c h = refl
+use Rattle.bsmp.specs.Board.{usable_curves, usable_functions}
+use Rattle.bsmp.proofs.Bools.{and_true}
+use Rattle.asking.specs.Learned.{usable_sizes, curves_from, functions_from}
 
 -- the list of variables: bytes are no more than 255
-bytes_low : (p : List ℕ) → ((i : ℕ) → Fits w8 (get_or p i 0)) → every (λ b. leb b 255) p ≡ true
+pub bytes_low : (p : List ℕ) → ((i : ℕ) → Fits w8 (get_or p i 0)) → every (λ b. leb b 255) p ≡ true
 bytes_low [] h = refl
 bytes_low (b ∷ p) h = rw (le-leb b 255 (omega (arith, h 0))) (bytes_low p (λ i. h (suc i)))
 
-pub sizes_told : (p : List ℕ) (r v : Bool) → ((i : ℕ) → Fits w8 (get_or p i 0)) → r ≡ (every (λ b. leb b 255) p && usable_sizes (map (λ b. b % 128) p)) → r ≡ v
-    → usable_sizes (map (λ b. b % 128) p) ≡ v
-sizes_told p r v h e k = sym (rw (bytes_low p h) at e) ∙ k
-
-pub variables_told : (p : List ℕ) → T.Variables (length p) ≡ T.Variables (length (map slot_of p))
-variables_told p = rw length-map
+pub sizes_off : (p : List ℕ) (r : Bool) → ((i : ℕ) → Fits w8 (get_or p i 0)) → r ≡ (every (λ b. leb b 255) p && usable_sizes (map (λ b. b % 128) p)) → r ≡ false
+    → usable_sizes (map (λ b. b % 128) p) ≡ false
+sizes_off p r h e k = sym (rw (bytes_low p h) at e) ∙ k
 
 -- the list of functions: four bits hold no more than 15
 four_bits : (p : List ℕ) → ((i : ℕ) → Fits w8 (get_or p i 0)) → every (λ f. leb f.input 15 && leb f.output 15) (functions_from p) ≡ true
@@ -46,17 +32,18 @@ four_bits (b ∷ p) h =
     let y : b % 16 ≤ 15 = omega arith in
     rw (le-leb (b / 16) 15 x, le-leb (b % 16) 15 y) (four_bits p (λ i. h (suc i)))
 
-pub functions_fit : (p : List ℕ) (r v : Bool) → ((i : ℕ) → Fits w8 (get_or p i 0)) → r ≡ leb (length p) 16 → r ≡ v → usable_functions (functions_from p) ≡ v
+pub functions_fit : (p : List ℕ) → ((i : ℕ) → Fits w8 (get_or p i 0)) → length p ≤ 16 → usable_functions (functions_from p) ≡ true
 unfolding usable_functions
-functions_fit p r v h e k = rw (length-map, ← e, four_bits p h, k) (and-on v)
+functions_fit p h l = rw (length-map, le-leb (length p) 16 l, four_bits p h)
 
-pub functions_told : (p : List ℕ) → T.Functions (length p) ≡ T.Functions (length (functions_from p))
-functions_told p = rw length-map
+pub functions_many : (p : List ℕ) → 16 < length p → usable_functions (functions_from p) ≡ false
+unfolding usable_functions
+functions_many p l = rw (length-map, lt-leb (length p) 16 l)
 
--- 65,536 blocks are sent as 0
-module _ (n : ℕ) where
-  pub blocks_most : n ≡ 0 → 65536 ≡ blocks_of n
-  blocks_most h = rw (eq-eqb n 0 h)
+-- the list of curves: how many they are
+pub curves_whole : (p : List ℕ) → (eqb (5 * length (curves_from p)) (length p) && usable_curves (curves_from p)) ≡ true → length (curves_from p) ≡ length p / 5
+curves_whole p h =
+    let l : 5 * length (curves_from p) ≡ length p = eqb-true _ _ (and_true (eqb (5 * length (curves_from p)) (length p)) _ h).0 in
+    omega arith
 
-  pub blocks_same : (n ≡ 0 → ⊥) → n ≡ blocks_of n
-  blocks_same h = rw (ne_eqb n 0 h)
+pub ruleset listed = (bytes_low, functions_fit, functions_many, curves_whole, common_steps)
