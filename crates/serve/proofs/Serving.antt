@@ -3,7 +3,7 @@ use Rattle.std.specs.Prelude.{Ok, Err}
 use mathlib.Core.Path.{◌≡◌, refl, ap, ◌∙◌, subst}
 use mathlib.Core.Bool.{Bool, true, false}
 use mathlib.Core.List.{List}
-use Prim.Native.Nat.{ℕ, ◌-◌, ◌≤◌}
+use Prim.Native.Nat.{ℕ, ◌-◌}
 use borrow.Rule.Slice.PartMut.{mid_of}
 use lib.ListN.{length}
 use Rattle.bsmp.specs.Board.{Layout, State, with_groups}
@@ -14,11 +14,9 @@ use Rattle.bsmp.specs.Store.{Lent, held}
 use Rattle.bsmp.specs.declared.WireError.{WireError}
 use Rattle.bsmp.specs.declared.Command.{Command}
 use Rattle.copies.proofs.Put.{mid_rest}
-use Rattle.parts.specs.Parts.{Passed}
 use Rattle.variables.proofs.One.{sound_kept}
 use Rattle.judging.specs.Judging.{lent_in, SameStores, SoundBoard}
 use Rattle.judging.specs.declared.Stores.{Stores}
-use Rattle.judging.proofs.Judging.{judged_long, judged_passed}
 use Rattle.changes.specs.Changes.{regrouped, LeftAs, ChangedBy}
 use Rattle.changes.specs.declared.Regroup.{Regroup}
 use Rattle.changes.specs.declared.Regroup.TheVariants.{Keep}
@@ -27,30 +25,16 @@ use Rattle.answers.specs.Answers.{Spoke}
 use Rattle.answers.specs.declared.Spoken.{Spoken}
 use Rattle.answers.specs.declared.Spoken.TheVariants.{Reply}
 use Rattle.answers.proofs.Answers.{done_said}
-use Rattle.serve.specs.Serve.{Judged, CarriedOut, Named, Unanswered, Fulfilled, ServedAs}
-use Rattle.serve.proofs.Silence.{unheard, run_named}
-
--- a judgement, and what it says to whom carries the message out or answers it
-module _ (l : Layout) (gs m : List ℕ) (k : Command) (v : Check) where
-  pub judged : (busy : ℕ) → k ≡ command_of (byte_at m 0) → v ≡ judge l gs busy m → Judged l gs m k v
-  judged busy e h = record { command = e; judgement = record { marks = busy; judged = h } }
-
-  pub judged_whole : Judged l gs m k v → v ≡ Pass → 3 ≤ length m
-  judged_whole h e = judged_long l gs m v h.judgement e
-
-  pub judged_passes : Judged l gs m k v → v ≡ Pass → Passed l gs (mid_of 3 (length m - 3) m) k
-  judged_passes h e = judged_passed l gs m v k h.judgement e h.command
-
-  pub judged_named : Judged l gs m k v → Named k v m
-  judged_named h = record { command = h.command; names = run_named l gs m k v h.judgement h.command }
+use Rattle.serve.specs.Serve.{CarriedOut, Unanswered, Fulfilled, ServedAs}
+use Rattle.serve.proofs.Silence.{unheard}
 
 -- carried out: the board is as sound after a change of its stores
 module _ (l : Layout) (m : List ℕ) (k : Command) (v : Check) (s : Stores) (gs : List ℕ) (h : SoundBoard l (lent_in s gs)) where
-  pub carried_pass : (g : Regroup) (s' : Stores) → SameStores s s' → Judged l gs m k v → v ≡ Pass
+  pub carried_pass : (g : Regroup) (s' : Stores) → SameStores s s' → k ≡ command_of (byte_at m 0) → v ≡ Pass
       → ChangedBy l (lent_in s gs) (line l gs (mid_of 3 (length m - 3) m) k).change g (lent_in s' gs) → CarriedOut l m v (lent_in s gs) g (lent_in s' gs)
   unfolding state_after
   carried_pass g s' a j e w = record {
-    leaves = rw e (ChangedBy.leaves (rw (j.command, mid_rest 3 m) at w));
+    leaves = rw e (ChangedBy.leaves (rw (j, mid_rest 3 m) at w));
     sound = record {
       variables = sound_kept l.sizes s.values.now s'.values.now h.variables a.values_long;
       sizes = h.sizes;
@@ -68,10 +52,10 @@ module _ (l : Layout) (m : List ℕ) (k : Command) (v : Check) (s : Stores) (gs 
 
 -- what is said to it, where an answer is due
 module _ (l : Layout) (gs m : List ℕ) (v : Check) (s : State) (r : List ℕ) (at : ℕ) (t : Spoken) where
-  pub respond_pass : (k : Command) (r' : List ℕ) → Judged l gs m k v → v ≡ Pass
+  pub respond_pass : (k : Command) (r' : List ℕ) → k ≡ command_of (byte_at m 0) → v ≡ Pass
       → Spoke true (spoken (line l gs (mid_of 3 (length m - 3) m) k).answer s) r at t r' → Spoke true (said (asked l gs m) v s) r at t r'
   unfolding said
-  respond_pass k r' j e h = rw (e, ← j.command, ← mid_rest 3 m) h
+  respond_pass k r' j e h = rw (e, ← j, ← mid_rest 3 m) h
 
   pub respond_fail : (e : WireError) (c : ℕ) → v ≡ Fail e → c ≡ error_code e → t ≡ Reply c 0 → Spoke true (said (asked l gs m) v s) r at t r
   unfolding said

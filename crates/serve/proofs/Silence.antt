@@ -10,19 +10,18 @@ use lib.Seq.{get_or-drop}
 use Rattle.bsmp.specs.Base.{byte_at}
 use Rattle.bsmp.specs.Board.{Layout, State, function}
 use Rattle.bsmp.specs.Codes.{command_of, Check, Pass, Fail}
-use Rattle.bsmp.specs.Message.{function_at, line, Said, replies, runs, spoken, said}
+use Rattle.bsmp.specs.Message.{function_at, line, judge, Said, replies, runs, spoken, said}
 use Rattle.bsmp.specs.declared.FunctionNumber.{FunctionNumber}
 use Rattle.bsmp.specs.declared.WireError.{WireError}
 use Rattle.bsmp.specs.declared.Command.{Command}
 use Rattle.bsmp.specs.declared.Command.TheVariants.{RunFunction}
 use Rattle.copies.proofs.Put.{put_nil, mid_rest}
-use Rattle.judging.specs.Judging.{Judgement}
-use Rattle.judging.proofs.Judging.{judged_passed}
+use Rattle.judging.proofs.Judging.{message_passed}
 use Rattle.answers.specs.Answers.{spoken_of, Spoke}
 use Rattle.answers.specs.declared.Spoken.{Spoken}
 use Rattle.answers.specs.declared.Spoken.TheVariants.{Run, Nothing}
 use Rattle.answers.proofs.Answers.{run_needs}
-use Rattle.serve.specs.Serve.{Quiet, Unanswered, Named}
+use Rattle.serve.specs.Serve.{Quiet, Unanswered}
 
 -- nothing is written
 pub unheard : (x : Said) (r : List ℕ) (at : ℕ) (s : Spoken) → s ≡ spoken_of false x → Spoke false x r at s r
@@ -48,22 +47,19 @@ pub quiet_nothing : (k c : Command) (m : List ℕ) → k ≡ c
     → ((l : Layout) (gs : List ℕ) (s : State) → Nothing ≡ spoken_of false (spoken (line l gs (drop 3 m) c).answer s)) → Quiet k m Nothing
 quiet_nothing k c m e h = rw e (record { is = h })
 
-module _ (k : Command) (v : Check) (m : List ℕ) (h : Named k v m) where
-  pub unanswered_pass : (s : Spoken) → v ≡ Pass → Quiet k m s → Unanswered v m s
-  unfolding said
-  unanswered_pass s e q = record { is = λ l gs st. rw (e, ← h.command) (q.is l gs st) }
-
-  pub run_there : v ≡ Pass → k ≡ RunFunction → 3 < length m
-  run_there = h.names
+pub unanswered_pass : (k : Command) (v : Check) (m : List ℕ) (s : Spoken) → k ≡ command_of (byte_at m 0) → v ≡ Pass → Quiet k m s → Unanswered v m s
+unfolding said
+unanswered_pass k v m s h e q = record { is = λ l gs st. rw (e, ← h) (q.is l gs st) }
 
 pub unanswered_fail : (v : Check) (m : List ℕ) (e : WireError) → v ≡ Fail e → Unanswered v m Nothing
 unfolding said
 unanswered_fail v m e h = record { is = λ l gs st. rw h }
 
 -- a message that passed and asks for a run has its function's number
-pub run_named : (l : Layout) (gs m : List ℕ) (k : Command) (v : Check) → Judgement l gs m v → k ≡ command_of (byte_at m 0) → v ≡ Pass → k ≡ RunFunction → 3 < length m
-run_named l gs m k v j f e g =
+pub run_there : (l : Layout) (gs : List ℕ) (busy : ℕ) (m : List ℕ) (k : Command) (v : Check) → v ≡ judge l gs busy m → k ≡ command_of (byte_at m 0) → v ≡ Pass
+    → k ≡ RunFunction → 3 < length m
+run_there l gs busy m k v j f e g =
     let rest : List ℕ = mid_of 3 (length m - 3) m in
-    let n : 0 < length rest = run_needs l.sizes l.writable l.curves l.functions gs rest k g (judged_passed l gs m v k j e f) in
+    let n : 0 < length rest = run_needs l.sizes l.writable l.curves l.functions gs rest k g (message_passed l gs busy m v k j e f) in
     let d : length rest ≡ length m - 3 = ap length (mid_rest 3 m) ∙ length-drop 3 m in
     omega arith

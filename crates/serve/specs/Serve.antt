@@ -1,15 +1,15 @@
 -- What the work of a message leaves, against what the definition gives. Assumes nothing.
-use Rattle.std.specs.Prelude.{◌≡◌, Bool, true, false, List, ℕ, ◌≤◌, ◌<◌, length, drop}
-use Rattle.bsmp.specs.Base.{every, byte_at}
+use Rattle.std.specs.Prelude.{◌≡◌, Bool, true, false, List, ℕ, ◌≤◌, length, drop}
+use Rattle.bsmp.specs.Base.{every}
 use Rattle.bsmp.specs.Board.{Layout, State, is_type}
-use Rattle.bsmp.specs.Codes.{command_of, Check, Pass}
+use Rattle.bsmp.specs.Codes.{Check}
 use Rattle.bsmp.specs.Message.{line, asked, said, spoken, state_after, handled}
 use Rattle.bsmp.specs.Store.{Lent, held}
 use Rattle.bsmp.specs.declared.Command.{Command}
 use Rattle.bsmp.specs.declared.Command.TheVariants.{Version, ListVariables, ListGroups, ShowGroup, ListCurves, ReadSum, ListFunctions, ReadVariable, ReadGroup, WriteVariable, WriteGroup}
 use Rattle.bsmp.specs.declared.Command.TheVariants.{MaskVariable, MaskGroup, WriteRead, MakeGroup, RemoveGroups, ReadBlock, WriteBlock, RenewSum, RunFunction, Unknown}
 use Rattle.records.specs.Lending.{writable_marks}
-use Rattle.judging.specs.Judging.{lent_layout, SoundBoard, Judgement}
+use Rattle.judging.specs.Judging.{lent_layout, SoundBoard}
 use Rattle.changes.specs.Changes.{LeftAs}
 use Rattle.changes.specs.declared.Regroup.{Regroup}
 use Rattle.answers.specs.Answers.{spoken_of, Spoke}
@@ -58,11 +58,6 @@ typed_layout ns ws cs fs = lent_layout ns (writable_marks ws) cs fs
 abbrev pub columns_in : Columns → Layout
 columns_in c = typed_layout c.sizes.now c.types.now c.curves.now c.functions.now
 
--- a message's command and its judgement under some busy marks: what carrying it out and answering it lean on
-pub record Judged (l : Layout) (gs m : List ℕ) (k : Command) (v : Check) : Type 0 where
-  pub command : k ≡ command_of (byte_at m 0)
-  pub judgement : Judgement l gs m v
-
 -- a message carried out: x was lent, y is left of it, as sound as x was, and g becomes of the made groups
 pub record CarriedOut (l : Layout) (m : List ℕ) (v : Check) (x : Lent) (g : Regroup) (y : Lent) : Type 0 where
   pub leaves : LeftAs l (state_after (asked l x.groups m) v (held l x)) g y
@@ -74,11 +69,6 @@ pub record Quiet (k : Command) (m : List ℕ) (s : Spoken) : Type 0 where
 
 pub record Unanswered (v : Check) (m : List ℕ) (s : Spoken) : Type 0 where
   pub is : (l : Layout) (gs : List ℕ) (st : State) → s ≡ spoken_of false (said (asked l gs m) v st)
-
--- what is then looked at: the command, and in a message that asks for a run its function's number
-pub record Named (k : Command) (v : Check) (m : List ℕ) : Type 0 where
-  pub command : k ≡ command_of (byte_at m 0)
-  pub names : v ≡ Pass → k ≡ RunFunction → 3 < length m
 
 -- a message that was judged v, carried out and answered out of what that leaves
 pub record Fulfilled (due : Bool) (l : Layout) (m : List ℕ) (v : Check) (x : Lent) (r : List ℕ) (at : ℕ)

@@ -2,12 +2,14 @@
 #![tactic(auto)]
 
 ghost use Rattle.std.specs.Prelude.{◌≡◌, true, ◌+◌, ◌≤◌, ◌<◌, length};
-ghost use Rattle.bsmp.specs.Message.{asked, said};
+ghost use Rattle.bsmp.specs.Base.{byte_at};
+ghost use Rattle.bsmp.specs.Codes.{command_of};
+ghost use Rattle.bsmp.specs.Message.{asked, judge, said};
 ghost use Rattle.bsmp.specs.Store.{held};
 ghost use Rattle.bsmp.specs.declared.Command.TheVariants.{RunFunction};
 ghost use Rattle.judging.specs.Judging.{layout_in, lent_in, SameStores, SoundBoard};
 ghost use Rattle.answers.specs.Answers.{Spoke};
-ghost use Rattle.serve.specs.Serve.{looks_at_types, SoundTypes, MarksFor, columns_in, Judged, CarriedOut, Quiet, Unanswered, Named, Fulfilled, ServedAs};
+ghost use Rattle.serve.specs.Serve.{looks_at_types, SoundTypes, MarksFor, columns_in, CarriedOut, Quiet, Unanswered, Fulfilled, ServedAs};
 
 use answers::Spoken;
 use bsmp::{Command, WireError};
@@ -23,11 +25,17 @@ pub struct Columns<'a> {
     pub functions: &'a [u8],
 }
 
-// A message's command, and how it was judged.
+// A message's command, and how it was judged on a board's layout and made groups under busy marks.
 #[derive(Clone, Copy)]
-struct Verdict {
+struct Verdict<'a> {
     command: Command,
     check: Result<(), WireError>,
+    layout: &'a Layout<'a>,
+    groups: &'a [u64],
+    message: &'a [u8],
+    busy: u64,
+    ghost named: { command ≡ command_of (byte_at message.now 0) },
+    ghost judged: { check ≡ judge (layout_in layout.now) groups.now busy message.now },
 }
 
 // What is said to a message, and what it makes of the made groups.
@@ -41,29 +49,18 @@ pub struct Served {
 fn looks_at_types(command: Command) -> bool
     ensures { result ≡ looks_at_types command }
 {
-    match command {
+    matches!(
+        command,
         Command::ListVariables
-        | Command::ListGroups
-        | Command::ShowGroup
-        | Command::ReadGroup
-        | Command::WriteVariable
-        | Command::WriteGroup
-        | Command::MaskVariable
-        | Command::MaskGroup
-        | Command::WriteRead => true,
-        Command::Version
-        | Command::ListCurves
-        | Command::ReadSum
-        | Command::ListFunctions
-        | Command::ReadVariable
-        | Command::MakeGroup
-        | Command::RemoveGroups
-        | Command::ReadBlock
-        | Command::WriteBlock
-        | Command::RenewSum
-        | Command::RunFunction
-        | Command::Unknown => false,
-    }
+            | Command::ListGroups
+            | Command::ShowGroup
+            | Command::ReadGroup
+            | Command::WriteVariable
+            | Command::WriteGroup
+            | Command::MaskVariable
+            | Command::MaskGroup
+            | Command::WriteRead
+    )
 }
 
 // The writable variables as marks, for a command that looks at them: to make them takes a walk over all variables.
@@ -79,48 +76,46 @@ fn marks_for(command: Command, types: &[u8]) -> u64
 }
 
 // Carries out a message if it passed its tests.
-fn carry_out(
-    verdict: Verdict,
-    layout: &Layout,
-    groups: &[u64],
-    stores: &mut Stores,
-    message: &[u8],
-) -> Regroup
-    requires sound_board { SoundBoard (layout_in layout.now) (lent_in stores.old groups.now) }
-    requires judged { Judged (layout_in layout.now) groups.now message.now verdict.command verdict.check }
+fn carry_out(verdict: &Verdict, stores: &mut Stores) -> Regroup
+    requires { SoundBoard (layout_in verdict.now.layout.now) (lent_in stores.old verdict.now.groups.now) }
     ensures same_stores { SameStores stores.old stores.new }
-    ensures carried_out { let x = lent_in stores.old groups.now in
-        let y = lent_in stores.new groups.now in
-        CarriedOut (layout_in layout.now) message.now verdict.check x result y }
+    ensures carried_out { let l = layout_in verdict.now.layout.now in
+        let x = lent_in stores.old verdict.now.groups.now in
+        let y = lent_in stores.new verdict.now.groups.now in
+        CarriedOut l verdict.now.message.now verdict.now.check x result y }
 {
+    let message = verdict.message;
     match verdict.check {
-        Ok(()) => changes::change(verdict.command, layout, groups, stores, &message[3..]),
+        Ok(()) => changes::change(
+            verdict.command,
+            verdict.layout,
+            verdict.groups,
+            stores,
+            &message[3..],
+        ),
         Err(_) => Regroup::Keep,
     }
 }
 
 // What is said to a message where an answer is due, out of the state after it.
-fn respond(
-    verdict: Verdict,
-    layout: &Layout,
-    groups: &[u64],
-    stores: &Stores,
-    message: &[u8],
-    reply: &mut [u8],
-    at: usize,
-) -> Spoken
-    requires fact { SoundBoard (layout_in layout.now) (lent_in stores.now groups.now) × (at + 4099 ≤ length reply.old) }
-    requires judged { Judged (layout_in layout.now) groups.now message.now verdict.command verdict.check }
-    ensures { let l = layout_in layout.now in
-        let x = lent_in stores.now groups.now in
-        let says = said (asked l x.groups message.now) verdict.check (held l x) in
+fn respond(verdict: &Verdict, stores: &Stores, reply: &mut [u8], at: usize) -> Spoken
+    requires { SoundBoard (layout_in verdict.now.layout.now) (lent_in stores.now verdict.now.groups.now) × (at + 4099 ≤ length reply.old) }
+    ensures { let l = layout_in verdict.now.layout.now in
+        let x = lent_in stores.now verdict.now.groups.now in
+        let says = said (asked l x.groups verdict.now.message.now) verdict.now.check (held l x) in
         Spoke true says reply.old at result reply.new }
 {
+    let message = verdict.message;
     match verdict.check {
-        Ok(()) => {
-            let payload = &message[3..];
-            answers::answer(verdict.command, layout, groups, stores, payload, reply, at)
-        }
+        Ok(()) => answers::answer(
+            verdict.command,
+            verdict.layout,
+            verdict.groups,
+            stores,
+            &message[3..],
+            reply,
+            at,
+        ),
         Err(e) => Spoken::of(u8::from(e), 0),
     }
 }
@@ -159,65 +154,43 @@ fn quiet(command: Command, message: &[u8]) -> Spoken
     }
 }
 
-#[tactic(auto, using(crate::proofs::Silence::run_there, crate::proofs::Silence::unanswered_pass))]
-fn unanswered(verdict: Verdict, message: &[u8]) -> Spoken
-    requires { Named verdict.command verdict.check message.now }
-    ensures { Unanswered verdict.check message.now result }
+fn unanswered(verdict: &Verdict) -> Spoken
+    ensures { Unanswered verdict.now.check verdict.now.message.now result }
 {
     match verdict.check {
-        Ok(()) => quiet(verdict.command, message),
+        Ok(()) => quiet(verdict.command, verdict.message),
         Err(_) => Spoken::Nothing,
     }
 }
 
 // What is said to a message, whether or not an answer is due.
 #[tactic(auto, using(crate::proofs::Serving::said_due, crate::proofs::Serving::said_quiet))]
-fn say(
-    due: bool,
-    verdict: Verdict,
-    layout: &Layout,
-    groups: &[u64],
-    stores: &Stores,
-    message: &[u8],
-    reply: &mut [u8],
-    at: usize,
-) -> Spoken
-    requires fact { SoundBoard (layout_in layout.now) (lent_in stores.now groups.now) × (at + 4099 ≤ length reply.old) }
-    requires judged { Judged (layout_in layout.now) groups.now message.now verdict.command verdict.check }
-    ensures { let l = layout_in layout.now in
-        let x = lent_in stores.now groups.now in
-        let says = said (asked l x.groups message.now) verdict.check (held l x) in
+fn say(due: bool, verdict: &Verdict, stores: &Stores, reply: &mut [u8], at: usize) -> Spoken
+    requires { SoundBoard (layout_in verdict.now.layout.now) (lent_in stores.now verdict.now.groups.now) × (at + 4099 ≤ length reply.old) }
+    ensures { let l = layout_in verdict.now.layout.now in
+        let x = lent_in stores.now verdict.now.groups.now in
+        let says = said (asked l x.groups verdict.now.message.now) verdict.now.check (held l x) in
         Spoke due says reply.old at result reply.new }
 {
     if due {
-        return respond(verdict, layout, groups, stores, message, reply, at);
+        return respond(verdict, stores, reply, at);
     }
-    unanswered(verdict, message)
+    unanswered(verdict)
 }
 
 // A message that was judged is carried out, and then answered: what is said is said out of what it leaves.
 #[tactic(auto, using(crate::proofs::Serving::fulfilled))]
-fn fulfil(
-    due: bool,
-    verdict: Verdict,
-    layout: &Layout,
-    groups: &[u64],
-    stores: &mut Stores,
-    message: &[u8],
-    reply: &mut [u8],
-    at: usize,
-) -> Served
-    requires fact { SoundBoard (layout_in layout.now) (lent_in stores.old groups.now) × (at + 4099 ≤ length reply.old) }
-    requires judged { Judged (layout_in layout.now) groups.now message.now verdict.command verdict.check }
+fn fulfil(due: bool, verdict: &Verdict, stores: &mut Stores, reply: &mut [u8], at: usize) -> Served
+    requires { SoundBoard (layout_in verdict.now.layout.now) (lent_in stores.old verdict.now.groups.now) × (at + 4099 ≤ length reply.old) }
     ensures same_stores { SameStores stores.old stores.new }
-    ensures fulfilled { let l = layout_in layout.now in
-        let x = lent_in stores.old groups.now in
-        let y = lent_in stores.new groups.now in
-        let m = message.now in
-        Fulfilled due l m verdict.check x reply.old at result.said result.regroup reply.new y }
+    ensures fulfilled { let l = layout_in verdict.now.layout.now in
+        let x = lent_in stores.old verdict.now.groups.now in
+        let y = lent_in stores.new verdict.now.groups.now in
+        let m = verdict.now.message.now in
+        Fulfilled due l m verdict.now.check x reply.old at result.said result.regroup reply.new y }
 {
-    let regroup = carry_out(verdict, layout, groups, stores, message);
-    let said = say(due, verdict, layout, groups, stores, message, reply, at);
+    let regroup = carry_out(verdict, stores);
+    let said = say(due, verdict, stores, reply, at);
     Served { said, regroup }
 }
 
@@ -248,6 +221,13 @@ pub fn serve(
         functions: columns.functions,
     };
     let check = judging::judge(command, &layout, groups, message, busy);
-    let verdict = Verdict { command, check };
-    fulfil(due, verdict, &layout, groups, stores, message, reply, at)
+    let verdict = Verdict {
+        command,
+        check,
+        layout: &layout,
+        groups,
+        message,
+        busy,
+    };
+    fulfil(due, &verdict, stores, reply, at)
 }
