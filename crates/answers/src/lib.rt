@@ -13,6 +13,7 @@ use bsmp::{Command, FunctionNumber};
 use judging::{Layout, Stores};
 
 // What is said to a message: a reply whose payload stands in the buffer, that a function is to be run, or, where no answer is due, nothing.
+// No Option stands around the first two: whoever ends a call tells all three apart in one match.
 #[derive(Clone, Copy)]
 pub enum Spoken {
     Reply {
@@ -27,6 +28,7 @@ pub enum Spoken {
 }
 
 impl Spoken {
+    // A reply in one line where the variant's fields would take four.
     pub fn of(code: u8, size: usize) -> Spoken
         ensures { result ≡ Reply code size }
     {

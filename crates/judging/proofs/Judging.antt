@@ -19,7 +19,6 @@ use Rattle.bsmp.proofs.Accepted.{fail_no}
 use Rattle.copies.proofs.Put.{mid_rest}
 use Rattle.parts.specs.Parts.{Passed}
 use Rattle.parts.proofs.Tested.{not_on, not_off, or_left, or_right, or_none}
-use Rattle.judging.specs.Judging.{Judgement}
 
 -- an empty message has no byte, which counts as 0
 pub none_named : (m : List ℕ) (k : Command) → length m ≡ 0 → k ≡ command_of 0 → k ≡ command_of (byte_at m 0)
@@ -60,11 +59,3 @@ module _ (l : Layout) (gs : List ℕ) (busy : ℕ) (m : List ℕ) where
 
   pub message_passed : (v : Check) (k : Command) → v ≡ judge l gs busy m → v ≡ Pass → k ≡ command_of (byte_at m 0) → Passed l gs (mid_of 3 (length m - 3) m) k
   message_passed v k h e f = record { marks = busy; passes = rw (f, mid_rest 3 m) (judge_pass (sym h ∙ e)).1 }
-
--- the same of a judgement under some busy marks, for what responds to it
-module _ (l : Layout) (gs m : List ℕ) (v : Check) where
-  pub judged_long : Judgement l gs m v → v ≡ Pass → 3 ≤ length m
-  judged_long j e = message_long l gs j.marks m v j.judged e
-
-  pub judged_passed : (k : Command) → Judgement l gs m v → v ≡ Pass → k ≡ command_of (byte_at m 0) → Passed l gs (mid_of 3 (length m - 3) m) k
-  judged_passed k j e f = message_passed l gs j.marks m v k j.judged e f

@@ -1,10 +1,8 @@
--- What the contracts of a message's work lean on: the layout of what is lent, a sound board, and a judgement. Assumes nothing.
+-- What the contracts of a message's work lean on: the layout and the stores that are lent, and a sound board. Assumes nothing.
 use Rattle.std.specs.Prelude.{◌≡◌, true, List, ℕ, ◌≤◌, length}
 use Rattle.bsmp.specs.Base.{every}
 use Rattle.bsmp.specs.Board.{Layout, usable_size, usable_functions}
-use Rattle.bsmp.specs.Message.{judge}
 use Rattle.bsmp.specs.Store.{Lent}
-use Rattle.bsmp.specs.Codes.{Check}
 use Rattle.sets.specs.Promises.{Sound}
 use Rattle.parts.specs.Parts.{layout_of}
 use Rattle.records.specs.Lending.{curves_of, functions_of, lent}
@@ -44,8 +42,3 @@ pub record SoundBoard (l : Layout) (x : Lent) : Type 0 where
   pub sums : SoundSums l.curves x.sums
   pub functions : usable_functions l.functions ≡ true
   pub groups : length x.groups ≤ 5
-
--- a judgement of m under some busy marks
-pub record Judgement (l : Layout) (gs m : List ℕ) (v : Check) : Type 0 where
-  pub marks : ℕ
-  pub judged : v ≡ judge l gs marks m

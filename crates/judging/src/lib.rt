@@ -18,7 +18,8 @@ pub struct Layout<'a> {
     pub functions: &'a [u8],
 }
 
-// What a board lends for a message to change: the stores, the blocks' lengths and the curves' sums.
+// What a board lends for a message to change: the stores, the blocks' lengths and the curves' sums. The layout and the made groups are
+// only read, and are lent beside it: one struct of all would hide in a signature what is changed.
 #[derive(Drop)]
 pub struct Stores<'a> {
     pub values: &'a mut [u8],

@@ -163,7 +163,7 @@ fn unanswered(verdict: &Verdict) -> Spoken
     }
 }
 
-// What is said to a message, whether or not an answer is due.
+// What is said to a message, whether or not an answer is due: the packet says so, so it is a flag here, and no step that a caller picks.
 #[tactic(auto, using(crate::proofs::Serving::said_due, crate::proofs::Serving::said_quiet))]
 fn say(due: bool, verdict: &Verdict, stores: &Stores, reply: &mut [u8], at: usize) -> Spoken
     requires { SoundBoard (layout_in verdict.now.layout.now) (lent_in stores.now verdict.now.groups.now) × (at + 4099 ≤ length reply.old) }
