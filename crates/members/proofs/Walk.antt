@@ -2,10 +2,9 @@
 use mathlib.Core.Path.{◌≡◌, refl, sym, ap, ap₂, ◌∙◌, subst}
 use mathlib.Core.Bool.{Bool, true, false, cond}
 use mathlib.Core.List.{List, [], ◌∷◌, map}
-use Prim.Native.Nat.{ℕ, ◌+◌, ◌-◌, ◌%◌, ◌^◌, ◌≤◌, ◌<◌}
+use Prim.Native.Nat.{ℕ, ◌+◌, ◌-◌, ◌≤◌, ◌<◌}
 use native.Mathlib.Omega.{arith}
-use native.Mathlib.Nat.{add-zero, mod-lt}
-use lib.Pow.{pow_pos}
+use native.Mathlib.Nat.{add-zero}
 use lib.ListN.{length, take, drop, get_or, set, length-append, length-map}
 use lib.Seq.{drop-drop}
 use Rattle.bsmp.specs.Base.{sum, cut, join, up_from}
@@ -19,10 +18,10 @@ use Rattle.copies.proofs.Put.{put_nil, put_put, set_put, length_put, length_part
 use Rattle.lists.proofs.Sum.{total_drop, total_split}
 use Rattle.lists.proofs.Pieces.{value_part, cut_change}
 use Rattle.sets.specs.Members.{members_below, members_of, size_at, set_bytes}
-use Rattle.sets.specs.Promises.{Sound, BytesAt, Turned, Lowest}
+use Rattle.sets.specs.Promises.{Sound, BytesAt, Turned}
 use Rattle.sets.proofs.Places.{place_room}
 use Rattle.sets.proofs.Members.{members_from, from_next}
-use Rattle.sets.proofs.AtOnce.{below_declared, below_none}
+use Rattle.sets.proofs.Inside.{AllBelow, members_inside, all_first, all_others}
 use Rattle.members.proofs.Whole.{set_small}
 
 -- bytes of each member laid one after another, from a place on; so many may still come
@@ -94,7 +93,7 @@ module _ (ns s : List ℕ) (m : ℕ) (r₀ : List ℕ) (at : ℕ) where
   unfolding values_of
   read_end i r to e q = lay_end _ _ 4096 r₀ at (sum (drop i ns)) r to (rw e at q)
 
--- the members' numbers: a walk that takes the lowest member off
+-- the members' numbers, one after another
 below_few : (m n : ℕ) → length (members_below m n) ≤ n
 unfolding members_below
 below_few m n =
@@ -102,32 +101,24 @@ below_few m n =
     omega (arith, only_length (marked m) (map variable (up_from 0 n)))
 
 module _ (m n : ℕ) (r₀ : List ℕ) (at : ℕ) where
-  abbrev Numbered : List VariableNumber → List ℕ → ℕ → Type 0
+  -- what is left of a walk over them
+  abbrev pub Numbered : List VariableNumber → List ℕ → ℕ → Type 0
   Numbered rest r to = Laying (λ j. j.0 ∷ []) (members_below m n) 64 r₀ at rest (length rest) r to
 
-  pub record Listing (rest : ℕ) (r : List ℕ) (to : ℕ) : Type 0 where
-    pub inside : rest < 2 ^ n
-    pub laid : Numbered (members_below rest n) r to
+  pub list_start : (rest : List VariableNumber) → rest ≡ members_below m n → n ≤ 64 → Numbered rest r₀ at
+  list_start rest e h = rw e (lay_start _ _ 64 r₀ at (length (members_below m n)) (omega (arith, below_few m n)))
 
-  pub list_start : (rest : ℕ) → rest ≡ m % 2 ^ n → n ≤ 64 → Listing rest r₀ at
-  list_start rest e h = rw e (record {
-    inside = mod-lt m (pow_pos n);
-    laid = rw (below_declared m n n (omega arith)) (lay_start _ _ 64 r₀ at (length (members_below m n)) (omega (arith, below_few m n)));
-  })
+  module _ (rest : List VariableNumber) (i : VariableNumber) (rest' : List VariableNumber) (r : List ℕ) (to : ℕ) (e : rest ≡ i ∷ rest') (q : Numbered rest r to) where
+    pub list_room : at + 64 ≤ length r₀ → to < length r
+    list_room h = omega (arith, q.room, q.kept, ap length e)
 
-  module _ (rest i : ℕ) (r : List ℕ) (to : ℕ) (few : n ≤ 64) (room : at + 64 ≤ length r₀) (o : Lowest rest i) (q : Listing rest r to) where
-    pub list_room : to < length r
-    list_room = omega (arith, q.laid.room, q.laid.kept, ap length (o.first n few q.inside))
+    pub list_next : at + 64 ≤ length r₀ → Numbered rest' (set r to i.0) (to + 1)
+    list_next h =
+        lay_step _ _ 64 r₀ at true i rest' 1 _ _ r to (set r to i.0) (to + 1) refl (omega arith) h
+        (record { passed = refl; bytes = set_put r to i.0 (list_room h) }) (subst (λ is. Numbered is r to) e q)
 
-    pub list_next : (rest' : ℕ) → rest' ≡ rest - 2 ^ i → Listing rest' (set r to i) (to + 1)
-    list_next rest' e = rw e (record {
-      inside = omega (arith, q.inside);
-      laid = lay_step _ _ 64 r₀ at true (variable i) (members_below (rest - 2 ^ i) n) 1 _ _ r to (set r to i) (to + 1)
-          refl (omega arith) room (record { passed = refl; bytes = set_put r to i list_room }) (subst (λ is. Numbered is r to) (o.first n few q.inside) q.laid);
-    })
-
-  pub list_end : (rest : ℕ) (r : List ℕ) (to : ℕ) → rest ≡ 0 → Listing rest r to → BytesAt (map (λ j. j.0) (members_below m n)) 64 r₀ at (to - at) r
-  list_end rest r to e q = rw (← singles (members_below m n)) (lay_end _ _ 64 r₀ at _ r to (subst (λ is. Numbered is r to) (ap (λ k. members_below k n) e ∙ below_none n) q.laid))
+  pub list_end : (rest : List VariableNumber) (r : List ℕ) (to : ℕ) → rest ≡ [] → Numbered rest r to → BytesAt (map (λ j. j.0) (members_below m n)) 64 r₀ at (to - at) r
+  list_end rest r to e q = rw (← singles (members_below m n)) (lay_end _ _ 64 r₀ at _ r to (subst (λ is. Numbered is r to) e q))
     where
       singles : (is : List VariableNumber) → join (map (λ j. j.0 ∷ []) is) ≡ map (λ j. j.0) is
       singles [] = refl
@@ -192,35 +183,31 @@ module _ (op : Operation) (ns p : List ℕ) (m front : ℕ) (s₀ : List ℕ) wh
       let w : Changing op ns p (members_of m ns) front s₀ [] s f = rw e at q in
       w.done
 
--- the bytes of the members, and of those that are left: a walk that takes the lowest member off
+-- the bytes of the members, and of those that are left
 module _ (ns : List ℕ) (m : ℕ) where
-  abbrev bytes_of : ℕ → ℕ
-  bytes_of rest = sum (map (size_at ns) (members_of rest ns))
+  pub record Adding (rest : List VariableNumber) (b : ℕ) : Type 0 where
+    pub inside : AllBelow (length ns) rest
+    pub left : b + sum (map (size_at ns) rest) ≡ set_bytes m ns
 
-  pub record Adding (rest b : ℕ) : Type 0 where
-    pub bytes : (k : ℕ) → get_or ns k 0 < 256
-    pub inside : rest < 2 ^ length ns
-    pub left : b + bytes_of rest ≡ set_bytes m ns
-
-  pub add_start : (rest : ℕ) → ((k : ℕ) → get_or ns k 0 < 256) → rest ≡ m % 2 ^ length ns → Adding rest 0
+  pub add_start : (rest : List VariableNumber) → rest ≡ members_of m ns → Adding rest 0
   unfolding set_bytes
-  add_start rest h e = rw e (record { bytes = h; inside = mod-lt m (pow_pos (length ns)); left = omega (arith, ap (λ is. sum (map (size_at ns) is)) (below_declared m (length ns) (length ns) (omega arith))) })
+  add_start rest e = rw e (record { inside = members_inside m (length ns); left = omega arith })
 
-  pub add_room : (rest i b : ℕ) → Lowest rest i → Adding rest b → i < length ns
-  add_room rest i b o q = o.below (length ns) q.inside
+  module _ (rest : List VariableNumber) (i : VariableNumber) (rest' : List VariableNumber) (b : ℕ) (e : rest ≡ i ∷ rest') (q : Adding rest b) where
+    pub add_room : i.0 < length ns
+    add_room = all_first (length ns) i rest' (rw e at q.inside)
 
-  pub add_next : (rest i b rest' : ℕ) → length ns ≤ 64 → Lowest rest i → rest' ≡ rest - 2 ^ i → Adding rest b → Adding rest' (b + get_or ns i 0)
-  unfolding sum
-  add_next rest i b rest' few o e q =
-      let s : bytes_of rest ≡ get_or ns i 0 + bytes_of (rest - 2 ^ i) = ap (λ is. sum (map (size_at ns) is)) (o.first (length ns) few q.inside) in
-      rw e (record { bytes = q.bytes; inside = omega (arith, q.inside); left = omega (arith, q.left, s) })
-
-  module _ (rest b : ℕ) (q : Adding rest b) where
-    pub add_end : rest ≡ 0 → b ≡ set_bytes m ns
+    pub add_next : Adding rest' (b + get_or ns i.0 0)
     unfolding sum
-    add_end e =
-        let s : bytes_of rest ≡ 0 = rw (e, below_none (length ns)) in
-        omega (arith, q.left, s)
+    add_next =
+        let s : b + (get_or ns i.0 0 + sum (map (size_at ns) rest')) ≡ set_bytes m ns = rw e at q.left in
+        record { inside = all_others (length ns) i rest' (rw e at q.inside); left = omega (arith, s) }
 
-    pub add_small : length ns ≤ 64 → b ≤ 16320
-    add_small few = omega (arith, q.left, set_small m ns few q.bytes)
+  pub add_end : (rest : List VariableNumber) (b : ℕ) → rest ≡ [] → Adding rest b → b ≡ set_bytes m ns
+  unfolding sum
+  add_end rest b e q =
+      let s : b + 0 ≡ set_bytes m ns = rw e at q.left in
+      omega arith
+
+  pub add_small : (rest : List VariableNumber) (b : ℕ) → ((k : ℕ) → get_or ns k 0 < 256) → length ns ≤ 64 → Adding rest b → b ≤ 16320
+  add_small rest b h few q = omega (arith, q.left, set_small m ns few h)

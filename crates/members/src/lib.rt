@@ -10,6 +10,7 @@ ghost use Rattle.sets.specs.Promises.{Sound, BytesAt};
 ghost use Rattle.members.specs.Runs.{StartOf, run_read, run_changed, RunOn};
 
 use bsmp::Operation;
+use sets::Walk;
 
 // The bytes of all members.
 pub fn set_bytes(sizes: &[u8], set: u64) -> usize
@@ -21,11 +22,8 @@ pub fn set_bytes(sizes: &[u8], set: u64) -> usize
         return lists::offset(sizes, sizes.len());
     }
     let mut bytes: usize = 0;
-    let mut rest = sets::declared(set, sizes.len());
-    while rest != 0 {
-        let i = sets::lowest(rest);
-        bytes += sizes[i] as usize;
-        rest = sets::without_lowest(rest, i);
+    for i in Walk::over(set, sizes.len()) {
+        bytes += usize::from(sizes[i.0]);
     }
     bytes
 }
@@ -174,10 +172,8 @@ fn list_all(count: usize, reply: &mut [u8], at: usize)
     requires { (count ≤ 64) × (at + 64 ≤ length reply.old) }
     ensures { reply.new ≡ put reply.old at (up_from 0 count) }
 {
-    let mut i = 0;
-    while i < count {
+    for i in 0..count {
         reply[at + i] = i as u8;
-        i += 1;
     }
 }
 
@@ -191,12 +187,9 @@ pub fn list_members(count: usize, set: u64, reply: &mut [u8], at: usize) -> usiz
         return count;
     }
     let mut to = at;
-    let mut rest = sets::declared(set, count);
-    while rest != 0 {
-        let i = sets::lowest(rest);
-        reply[to] = i as u8;
+    for i in Walk::over(set, count) {
+        reply[to] = i.0 as u8;
         to += 1;
-        rest = sets::without_lowest(rest, i);
     }
     to - at
 }

@@ -74,6 +74,9 @@ pub below_none : (n : ℕ) → members_below 0 n ≡ []
 unfolding members_below
 below_none n = only_none (marked 0) 0 n (λ k h. has_none k)
 
+pub none_left : (m n : ℕ) → m ≡ 0 → members_below m n ≡ []
+none_left m n e = rw e (below_none n)
+
 -- the members after the first are those of the half, one number higher
 abbrev pub next : VariableNumber → VariableNumber
 next i = variable (suc i.0)

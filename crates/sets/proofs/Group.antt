@@ -9,11 +9,11 @@ use borrow.Author.Tests.{ne_eqb}
 use lib.ListN.{length, get_or}
 use Rattle.bsmp.specs.Base.{up_from, only, cut}
 use Rattle.bsmp.specs.Board.{Layout, variable, size_of, marked, in_group, members, group_bytes}
-use Rattle.bsmp.specs.Message.{edited, values_of}
+use Rattle.bsmp.specs.Message.{edited}
 use Rattle.bsmp.specs.declared.Operation.{Operation}
 use Rattle.bsmp.specs.declared.GroupNumber.{GroupNumber}
 use Rattle.sets.specs.Members.{members_below, members_of, size_at, set_bytes, group_set}
-use Rattle.sets.specs.Promises.{GroupSet, BytesAt}
+use Rattle.sets.specs.Promises.{GroupSet}
 use Rattle.sets.proofs.Marks.{has_not, has_all}
 use Rattle.sets.proofs.Members.{only_same}
 use Rattle.sets.proofs.AtOnce.{below_declared}
@@ -72,10 +72,3 @@ module _ (l : Layout) (gs : List ℕ) (g : GroupNumber) (ns : List ℕ) (w set :
   pub group_edit : (op : Operation) (p : List ℕ) (vs x : List (List ℕ)) → x ≡ edited op (members_of set ns) (cut (map (size_at ns) (members_of set ns)) p) vs
       → x ≡ edited op (members l gs g) (cut (map (size_of l) (members l gs g)) p) vs
   group_edit op p vs x q = rw (group_members_lem, e) q
-
-  module _ (most : ℕ) (r : List ℕ) (at n : ℕ) (r' : List ℕ) where
-    pub group_read : (vs : List (List ℕ)) → BytesAt (values_of vs (members_of set ns)) most r at n r' → BytesAt (values_of vs (members l gs g)) most r at n r'
-    group_read vs p = rw group_members_lem p
-
-    pub group_list_lem : (c : ℕ) → c ≡ length ns → BytesAt (map (λ i. i.0) (members_below set c)) most r at n r' → BytesAt (map (λ i. i.0) (members l gs g)) most r at n r'
-    group_list_lem c o p = rw (group_members_lem, ← o) p

@@ -6,3 +6,4 @@ pub mod First
 pub mod Group
 pub mod Places
 pub mod Unique
+pub mod Inside

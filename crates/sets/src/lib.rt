@@ -1,7 +1,8 @@
-// Sets of variables as marks: a group's set, what is marked, the lowest member, the set of IDs.
+// Sets of variables as marks: a group's set, what is marked, a walk over the members, the set of IDs.
 #![tactic(auto)]
 
 ghost use Rattle.std.specs.Prelude.{◌≡◌, true, false, cond, ◌+◌, ◌-◌, ◌%◌, ◌^◌, ◌≤◌, ◌<◌, eqb, length};
+ghost use Rattle.std.specs.Iterator.{YieldsFirst, item_count};
 ghost use Rattle.bsmp.specs.Base.{every, some};
 ghost use Rattle.bsmp.specs.Board.{marked};
 ghost use Rattle.sets.specs.Members.{members_below};
@@ -93,6 +94,43 @@ pub fn without_lowest(set: u64, i: usize) -> u64
     ensures { result ≡ set - 2 ^ i }
 {
     set - (1 << i)
+}
+
+// A walk over the members of a set, ascending.
+#[derive(Drop)]
+pub struct Walk {
+    left: u64,
+}
+
+impl Walk {
+    // Over those of the first `count` variables.
+    #[tactic(auto, using(crate::proofs::AtOnce::below_declared))]
+    pub fn over(set: u64, count: usize) -> Walk
+        requires { count ≤ 64 }
+        ensures { members_below result.left 64 ≡ members_below set count }
+    {
+        Walk {
+            left: declared(set, count),
+        }
+    }
+}
+
+impl Iterator for Walk {
+    type Item = VariableNumber;
+
+    ghost next_gives = { YieldsFirst (λ w. members_below w.left 64) };
+
+    ghost remaining = { item_count (λ w. members_below w.left 64) };
+
+    #[tactic(auto, using(crate::proofs::AtOnce::none_left))]
+    fn next(&mut self) -> Option<VariableNumber> {
+        if self.left == 0 {
+            return None;
+        }
+        let i = lowest(self.left);
+        self.left = without_lowest(self.left, i);
+        Some(VariableNumber(i))
+    }
 }
 
 // The set of the variables named: a union, so their order doesn't matter.

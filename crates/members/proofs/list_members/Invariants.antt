@@ -1,9 +1,7 @@
 -- `list_members` meets its contract. Assumes nothing.
-use Rattle.members.proofs.Walk.{Listing}
+use Rattle.sets.specs.Members.{members_below}
+use Rattle.members.proofs.Walk.{Numbered}
 use Rattle.members.proofs.list_members.Given as goal
 
-abbrev pub invariant-loop-rest : goal.invariant-loop-rest
-invariant-loop-rest l = Listing l.set l.count l.initial.reply l.at l.rest l.reply l.to
-
-abbrev pub decreases-loop-rest : goal.decreases-loop-rest
-decreases-loop-rest l = l.rest
+abbrev pub invariant-loop-i : goal.invariant-loop-i
+invariant-loop-i l = Numbered l.set l.count l.initial.reply l.at (members_below l.i-iterator.left 64) l.reply l.to
