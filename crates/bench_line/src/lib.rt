@@ -5,21 +5,11 @@ ghost use Rattle.std.specs.Prelude.{◌≡◌, ◌+◌, ◌≤◌, ◌<◌, leng
 
 use bsmp::Outcome;
 
-fn put_word(out: &mut [u8], at: usize, due: bool) -> usize
-    requires { at + 10 ≤ length out.old }
-    ensures { result ≤ at + 10 }
-{
-    if due {
-        return text::put_text(out, at, b" run ");
-    }
-    text::put_text(out, at, b" runquiet ")
-}
-
 fn put_input(out: &mut [u8], at: usize, input: &[u8]) -> usize
     requires { (at ≤ 51) × (length input.now ≤ 15) × (9000 ≤ length out.old) }
     ensures { result < 9000 }
 {
-    if input.len() == 0 {
+    if input.is_empty() {
         return text::put_text(out, at, b"-");
     }
     text::put_hex(out, at, input)
@@ -37,17 +27,17 @@ fn put_run(
     requires { (at ≤ 20) × (9000 ≤ length out.old) }
     ensures { result < 9000 }
 {
-    let a = put_word(out, at, due);
+    let word: &[u8] = if due { b" run " } else { b" runquiet " };
+    let a = text::put_text(out, at, word);
     let b = text::put_number(out, a, function as u64);
     let c = text::put_text(out, b, b" ");
     if 15 < input {
         return c;
     }
-    let end = 5 + input;
-    if packet.len() < end {
-        return c;
+    match packet.get(5..5 + input) {
+        Some(input) => put_input(out, c, input),
+        None => c,
     }
-    put_input(out, c, &packet[5..end])
 }
 
 // A reply of n bytes; the test keeps this function free of the promise that it stands in the buffer.
@@ -56,10 +46,10 @@ fn put_answer(out: &mut [u8], at: usize, reply: &[u8], n: usize) -> usize
     ensures { result < 9000 }
 {
     let a = text::put_text(out, at, b" answer ");
-    if reply.len() < n {
-        return a;
+    match reply.get(..n) {
+        Some(reply) => text::put_hex(out, a, reply),
+        None => a,
     }
-    text::put_hex(out, a, &reply[0..n])
 }
 
 // The line of an outcome, without its end; answers the index after it.
@@ -78,7 +68,7 @@ pub fn put_line(number: u64, o: Outcome, packet: &[u8], reply: &[u8], out: &mut 
         } => put_run(out, a, function.0, packet, input, due),
         Outcome::Refused(r) => {
             let b = text::put_text(out, a, b" refused ");
-            text::put_number(out, b, r.number() as u64)
+            text::put_number(out, b, u8::from(r) as u64)
         }
     }
 }
