@@ -35,6 +35,17 @@ pub struct Known<'a> {
     pub calls: &'a [u8],
 }
 
+impl Known<'static> {
+    // Nothing is learned yet.
+    pub const NOTHING: Known<'static> = Known {
+        sizes: &[],
+        writable: 0,
+        sets: &[],
+        shapes: &[],
+        calls: &[],
+    };
+}
+
 // Whether there are 1 to 64 sizes of 1 to 127, together at most 4,096. A size is the low seven bits of a byte, as in list 03; no byte is
 // over `most`.
 pub fn usable_sizes(list: &[u8], most: u8) -> bool

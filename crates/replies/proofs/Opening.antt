@@ -1,6 +1,7 @@
 -- What `open` meets, one return at a time, and what an opened reply tells its caller. Assumes nothing.
 use mathlib.Core.Path.{◌≡◌, sym, ap, ◌∙◌}
 use mathlib.Core.Bool.{Bool, true, false, cond, not, ◌&&◌}
+use Rattle.std.proofs.Common.{Result, Ok, Err}
 use mathlib.Core.List.{List}
 use Prim.Native.Nat.{ℕ, ◌+◌, ◌-◌, ◌*◌, ◌%◌, ◌^◌, ◌≤◌, ◌<◌}
 use native.Mathlib.Omega.{arith}
@@ -18,8 +19,6 @@ use Rattle.bsmp.proofs.Chain.{clear_at, first_case, first_map}
 use Rattle.asking.specs.Request.{is_multicast, is_address}
 use Rattle.asking.specs.Reply.{is_whole}
 use Rattle.replies.specs.Reading.{open_tests, opened_of}
-use Rattle.replies.specs.declared.Opened.{Opened}
-use Rattle.replies.specs.declared.Opened.TheVariants.{Message, Refused}
 
 -- the message, by places in the reply -----------------------------------------------------------------------------------
 module _ (q : List ℕ) where
@@ -48,79 +47,77 @@ module _ (q : List ℕ) where
 
 -- the returns of `open` --------------------------------------------------------------------------------------------------
 module _ (to : ℕ) (q : List ℕ) (a : Bool) (ae : a ≡ is_address to) where
-  abbrev Opens : Opened → Type 0
+  abbrev Opens : Result (Unit {0}) Refusal → Type 0
   Opens o = o ≡ opened_of to q
 
-  pub open_address : not a ≡ true → Opens (Refused BadAddress)
+  pub open_address : a ≡ false → Opens (Err BadAddress)
   unfolding opened_of first
   open_address v = simp (← ae, v)
 
-  module _ (v : not a ≡ false) where
-    pub open_short : length q < 2 → Opens (Refused PacketLength)
+  module _ (v : a ≡ true) where
+    pub open_short : length q < 2 → Opens (Err PacketLength)
     unfolding opened_of first
     open_short h = simp (← ae, v, lt-ltb _ _ h)
 
-    pub open_long : 2 ≤ length q → 4104 < length q → Opens (Refused PacketLength)
+    pub open_long : 2 ≤ length q → 4104 < length q → Opens (Err PacketLength)
     unfolding opened_of first
     open_long h k = simp (← ae, v, le-ltb _ _ h, lt-ltb _ _ k)
 
     module _ (s : ℕ) (e : s ≡ sum q % 256) (h : 2 ≤ length q) (k : length q ≤ 4104) where
-      pub open_sum : (s ≡ 0 → ⊥) → Opens (Refused Checksum)
+      pub open_sum : (s ≡ 0 → ⊥) → Opens (Err Checksum)
       unfolding opened_of first
       open_sum z = simp (← ae, v, le-ltb _ _ h, le-ltb _ _ k, ← e, ne_eqb _ _ z)
 
       module _ (z : s ≡ 0) where
         -- past the checksum one test is left
-        last : (o : Opened) → o ≡ cond (not (not (is_multicast to) && eqb (byte_at q 0) 0 && is_whole (message q))) (Refused ReplyUnfit) Message → Opens o
+        last : (o : Result (Unit {0}) Refusal) → o ≡ cond (not (not (is_multicast to) && eqb (byte_at q 0) 0 && is_whole (message q))) (Err ReplyUnfit) (Ok tt) → Opens o
         unfolding opened_of first
         last o r = simp (← ae, v, le-ltb _ _ h, le-ltb _ _ k, ← e, eq-eqb _ _ z) r
 
-        pub open_multicast : 248 ≤ to → to < 2 ^ 8 → Opens (Refused ReplyUnfit)
+        pub open_multicast : 248 ≤ to → to < 2 ^ 8 → Opens (Err ReplyUnfit)
         open_multicast m b = let o : to ≤ 255 = omega arith in last _ (rw (le-leb 248 to m, le-leb to 255 o))
 
         module _ (m : to < 248) where
-          pub open_elsewhere : (get_or q 0 0 ≡ 0 → ⊥) → Opens (Refused ReplyUnfit)
+          pub open_elsewhere : (get_or q 0 0 ≡ 0 → ⊥) → Opens (Err ReplyUnfit)
           open_elsewhere d = last _ (rw (lt-leb 248 to m, ne_eqb _ _ d))
 
           module _ (d : get_or q 0 0 ≡ 0) where
-            pub open_cut : length q < 5 → Opens (Refused ReplyUnfit)
+            pub open_cut : length q < 5 → Opens (Err ReplyUnfit)
             open_cut l = last _ (rw (lt-leb 248 to m, d, cut_off q l))
 
             module _ (n : ℕ) (l : 5 ≤ length q) (f : n ≡ get_or q 2 0 * 256 + get_or q 3 0) where
-              pub open_size : (n ≡ length q - 5 → ⊥) → Opens (Refused ReplyUnfit)
+              pub open_size : (n ≡ length q - 5 → ⊥) → Opens (Err ReplyUnfit)
               open_size w = last _ (rw (lt-leb 248 to m, d, size_tested q n l f, ne_eqb _ _ w))
 
-              pub open_whole : n ≡ length q - 5 → Opens Message
+              pub open_whole : n ≡ length q - 5 → Opens (Ok tt)
               open_whole w = last _ (rw (lt-leb 248 to m, d, size_tested q n l f, eq-eqb _ _ w))
 
-pub ruleset open_cases = (open_address, open_short, open_long, open_sum, open_multicast, open_elsewhere, open_cut, open_size, open_whole)
-
 -- what an opened reply tells ----------------------------------------------------------------------------------------------
-abbrev either : {B : Type 0} → (Refusal → B) → B → Opened → B
-either f ok (Refused x) = f x
-either f ok Message = ok
+abbrev either : {B : Type 0} → (Refusal → B) → B → Result (Unit {0}) Refusal → B
+either f ok (Err x) = f x
+either f ok (Ok _) = ok
 
-module _ (to : ℕ) (q : List ℕ) (o : Opened) (h : o ≡ opened_of to q) where
+module _ (to : ℕ) (q : List ℕ) (o : Result (Unit {0}) Refusal) (h : o ≡ opened_of to q) where
   module _ {B : Type 0} (f : Refusal → B) (ok : B) where
     tested : either f ok o ≡ first (open_tests to q) f ok
     unfolding opened_of
-    tested = ap (either f ok) h ∙ first_map (either f ok) (open_tests to q) Refused Message
+    tested = ap (either f ok) h ∙ first_map (either f ok) (open_tests to q) Err (Ok tt)
 
-    pub refused_first : (x : Refusal) → o ≡ Refused x → f x ≡ first (open_tests to q) f ok
+    pub refused_first : (x : Refusal) → o ≡ Err x → f x ≡ first (open_tests to q) f ok
     refused_first x e = ap (either f ok) (sym e) ∙ tested
 
-    pub message_first : o ≡ Message → ok ≡ first (open_tests to q) f ok
+    pub message_first : o ≡ Ok tt → ok ≡ first (open_tests to q) f ok
     message_first e = ap (either f ok) (sym e) ∙ tested
 
   -- the message's head is there
-  pub message_least : o ≡ Message → 5 ≤ length q
+  pub message_least : o ≡ Ok tt → 5 ≤ length q
   unfolding opened_of
   message_least e =
-      first_case (λ z. z ≡ Message → 5 ≤ length q) (open_tests to q) Refused Message (λ x k. absurd (never x k))
+      first_case (λ z. z ≡ Ok tt → 5 ≤ length q) (open_tests to q) Err (Ok tt) (λ x k. absurd (never x k))
       (λ c k. whole_least q (and_true (not (is_multicast to) && eqb (byte_at q 0) 0) _ (not-false _ (clear_at (open_tests to q) c 3))).1) (sym h ∙ e)
     where
-      never : (x : Refusal) → Refused x ≡ Message → ⊥
-      never x k = let z : ◌≡◌ {A = ℕ} 0 1 = cc in omega arith
+      never : (x : Refusal) → ◌≡◌ {A = Result (Unit {0}) Refusal} (Err x) (Ok tt) → ⊥
+      never x k = cc
 
 -- its code, and its payload as a part of the reply, `&reply[4..reply.len() - 1]`
 module _ (q : List ℕ) (h : 5 ≤ length q) where

@@ -1,5 +1,5 @@
 -- How the code reads a reply: in steps, each as the definition has it. Assumes nothing.
-use Rattle.std.specs.Prelude.{Bool, cond, not, ◌&&◌, ◌||◌, List, [], ◌∷◌, ℕ, ◌%◌, ltb, eqb, length, drop}
+use Rattle.std.specs.Prelude.{Bool, cond, not, ◌&&◌, ◌||◌, Result, Ok, Err, List, [], ◌∷◌, ℕ, ◌%◌, ltb, eqb, length, drop}
 use Rattle.bsmp.specs.Base.{sum, byte_at, Test, test, first}
 use Rattle.bsmp.specs.Packet.{message}
 use Rattle.bsmp.specs.declared.Refusal.{Refusal}
@@ -10,8 +10,6 @@ use Rattle.asking.specs.Reply.{Wanted, wanted, is_sized, error_reply, error_of, 
 use Rattle.asking.specs.Learning.{blank}
 use Rattle.asking.specs.declared.Request.{Request}
 use Rattle.learned.specs.Answered.{answered}
-use Rattle.replies.specs.declared.Opened.{Opened}
-use Rattle.replies.specs.declared.Opened.TheVariants as O
 
 -- whether the table counts: the same with any table
 abbrev pub sized_request : Request → Bool
@@ -26,8 +24,8 @@ open_tests to q =
     ∷ test 13 ReplyUnfit (not (not (is_multicast to) && eqb (byte_at q 0) 0 && is_whole (message q)))
     ∷ []
 
-unfoldable pub opened_of : (destination : ℕ) → List ℕ → Opened
-opened_of to q = first (open_tests to q) O.Refused O.Message
+unfoldable pub opened_of : (destination : ℕ) → List ℕ → Result (Unit {0}) Refusal
+opened_of to q = first (open_tests to q) Err (Ok tt)
 
 -- an error or an answer
 abbrev pub message_heard : Learned → Wanted → ℕ → List ℕ → Hearing
