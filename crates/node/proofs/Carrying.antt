@@ -8,7 +8,7 @@ use native.Mathlib.Omega.{arith}
 use lib.ListN.{length, length-append}
 use borrow.Author.Tests.{not-true, not-false}
 use Rattle.bsmp.specs.Base.{join, first}
-use Rattle.bsmp.specs.Board.{Table, layout, State, block_sizes, sum_sizes, usable}
+use Rattle.bsmp.specs.Board.{Table, Layout, layout, State, block_sizes, sum_sizes, usable}
 use Rattle.bsmp.specs.Packet.{Place, Result, refuse, place_tests, packet_tests, is_own, destination, message, served, packet}
 use Rattle.bsmp.specs.Store.{Lent, held}
 use Rattle.bsmp.specs.Apart.{arrives}
@@ -19,27 +19,23 @@ use Rattle.bsmp.specs.declared.Outcome.TheVariants as O
 use Rattle.bsmp.proofs.Usable.{usable_parts, faults_none, faults_some}
 use Rattle.bsmp.proofs.Stays.{stays}
 use Rattle.bsmp.proofs.Store.{join_cut}
-use Rattle.records.specs.Lending.{groups_by, groups_of, table_of, lent}
+use Rattle.records.specs.Lending.{groups_of, table_of, lent}
 use Rattle.records.specs.declared.Records.{Records}
 use Rattle.records.specs.declared.Groups.{Groups}
 use Rattle.records.proofs.Lending.{group_count_lem}
 use Rattle.records.proofs.Sound.{groups_most}
 use Rattle.wire.specs.Opening.{placed, opened_of}
-use Rattle.wire.specs.declared.Opened.{Opened}
-use Rattle.wire.specs.declared.Opened.TheVariants.{Message, Refused}
+use Rattle.std.specs.Prelude as R
 use Rattle.wire.proofs.Opening.{refused_first, message_first, message_due, message_lent}
-use Rattle.serve.specs.Serve.{typed_layout}
 use Rattle.changes.specs.Changes.{regrouped}
 use Rattle.changes.specs.declared.Regroup.{Regroup}
 use Rattle.changes.specs.declared.Regroup.TheVariants.{Keep, Make}
-use Rattle.node.specs.Promise.{table_with, packet_left, packet_left_of, unopened_of, front_of, Fits, BoardReady, Tested, EndsAs, CarriedAs}
+use Rattle.node.specs.Promise.{table_with, packet_left, packet_left_of, Fits, EndsAs, CarriedAs}
+use Rattle.node.proofs.Tables.{regroup_keep}
 use Rattle.node.proofs.Receiving.{stopped}
 
 -- any board ----------------------------------------------------------------------------------------------------------------------
-pub board_ready : (r : Records) (cs fs : List ℕ) (g : Groups) (vs bs ls ds : List ℕ) (u : Bool) → Tested u r cs fs g vs bs ls ds → not u ≡ false → BoardReady r cs fs g vs bs ls ds
-board_ready r cs fs g vs bs ls ds u tested v = tested.ready (not-false u v)
-
-module _ (r : Records) (cs fs : List ℕ) (g : Groups) (vs bs ls ds : List ℕ) (own mc busy : ℕ) (p b : List ℕ) (o : Outcome) (q : Regroup) where
+module _ (r : Records) (cs fs : List ℕ) (g : Groups) (vs bs ls ds : List ℕ) (own mc busy : ℕ) (p b : List ℕ) where
   abbrev T : Table
   T = table_of r cs fs
 
@@ -49,32 +45,32 @@ module _ (r : Records) (cs fs : List ℕ) (g : Groups) (vs bs ls ds : List ℕ) 
   abbrev A : Place
   A = placed own mc
 
-  pub carried_unusable : (u : Bool) → Tested u r cs fs g vs bs ls ds → not u ≡ true → o ≡ O.Refused BoardUnusable → q ≡ Keep → CarriedAs T A busy p X b o q b X
+  pub carried_unusable : (u : Bool) → u ≡ usable T (held (layout T) X) → not u ≡ true → CarriedAs T A busy p X b (O.Refused BoardUnusable) Keep b X
   unfolding packet
-  carried_unusable u tested v e f = record {
-    ends = stopped (layout T) X b _ BoardUnusable o q (faults_some T (held (layout T) X) _ _ _ (sym tested.is ∙ not-true u v) refl) e f;
+  carried_unusable u checked v = record {
+    ends = stopped (layout T) X b _ BoardUnusable _ _ (faults_some T (held (layout T) X) _ _ _ (sym checked ∙ not-true u v) refl) refl refl;
   }
 
   -- the packet's tests, on a usable board
-  module _ (u : Bool) (tested : Tested u r cs fs g vs bs ls ds) (v : not u ≡ false) (d : Opened) (e : d ≡ opened_of A (length b) p) where
+  module _ (u : Bool) (checked : u ≡ usable T (held (layout T) X)) (v : not u ≡ false) (d : R.Result Bool Refusal) (e : d ≡ opened_of A (length b) p) where
     abbrev Work : Result
     Work = served (layout T) busy (is_own A (destination p)) (message p) (held (layout T) X)
 
     reached : (z : Result) → z ≡ first (place_tests A (length b)) (refuse (held (layout T) X)) (first (packet_tests A p) (refuse (held (layout T) X)) Work)
         → z ≡ packet T A busy (length b) p (held (layout T) X)
     unfolding packet
-    reached z h = faults_none T (held (layout T) X) (refuse (held (layout T) X)) _ z (board_ready r cs fs g vs bs ls ds u tested v).usable_is h
+    reached z h = faults_none T (held (layout T) X) (refuse (held (layout T) X)) _ z (sym checked ∙ not-false u v) h
 
-    pub carried_unopened : (n : Refusal) → d ≡ Refused n → o ≡ unopened_of d → q ≡ Keep → CarriedAs T A busy p X b o q b X
-    carried_unopened n h f k = record {
+    pub carried_unopened : (n : Refusal) → d ≡ R.Err n → CarriedAs T A busy p X b (O.Refused n) Keep b X
+    carried_unopened n h = record {
       ends =
-          stopped (layout T) X b _ n o q
-          (reached _ (refused_first A (length b) p d e (refuse (held (layout T) X)) _ (refuse (held (layout T) X) n) n h refl)) (f ∙ ap unopened_of h) k;
+          stopped (layout T) X b _ n _ _
+          (reached _ (refused_first A (length b) p d e (refuse (held (layout T) X)) _ (refuse (held (layout T) X) n) n h refl)) refl refl;
     }
 
-    pub carried_served : (due : Bool) (b' : List ℕ) (y : Lent) → d ≡ Message due
+    pub carried_served : (due : Bool) (o : Outcome) (q : Regroup) (b' : List ℕ) (y : Lent) → d ≡ R.Ok due
         → EndsAs (served (layout T) busy due (message p) (held (layout T) X)) (layout T) b o q b' y → CarriedAs T A busy p X b o q b' y
-    carried_served due b' y h k = record {
+    carried_served due o q b' y h k = record {
       ends =
           subst (λ z. EndsAs z (layout T) b o q b' y)
           (reached _
@@ -82,18 +78,15 @@ module _ (r : Records) (cs fs : List ℕ) (g : Groups) (vs bs ls ds : List ℕ) 
           (ap (λ t. served (layout T) busy t (message p) (held (layout T) X)) (message_due A (length b) p d e due h)))) k;
     }
 
-  abbrev made : List ℕ
-  made = front_of g.count g.sets
-
-  -- what was lent by its fronts is what the definition has
-  pub lent_ends : (due : Bool) (b' vs' bs' ls' ds' : List ℕ) → BoardReady r cs fs g vs bs ls ds
-      → (let l = typed_layout (front_of r.count r.sizes) (front_of r.count r.writable) cs fs in
-      EndsAs (served l busy due (mid_of 1 (length p - 1 - 1) p) (held l (lent vs bs ls ds made))) l b o q b' (lent vs' bs' ls' ds' made))
-      → EndsAs (served (layout T) busy due (message p) (held (layout T) X)) (layout T) b o q b' (lent vs' bs' ls' ds' (groups_of g))
-  lent_ends due b' vs' bs' ls' ds' ready h =
-      subst (λ m. EndsAs (served (layout T) busy due m (held (layout T) X)) (layout T) b o q b' (lent vs' bs' ls' ds' (groups_of g))) (message_lent p)
-      (subst (λ gs. EndsAs (served (layout T) busy due (mid_of 1 (length p - 1 - 1) p) (held (layout T) (lent vs bs ls ds gs))) (layout T) b o q b' (lent vs' bs' ls' ds' gs)) ready.groups_are
-      (subst (λ l. EndsAs (served l busy due (mid_of 1 (length p - 1 - 1) p) (held l (lent vs bs ls ds made))) l b o q b' (lent vs' bs' ls' ds' made)) ready.layout_is h))
+-- what was lent by its fronts is what the definition has
+module _ (t : Table) (g : Groups) (busy : ℕ) (p b : List ℕ) (o : Outcome) (q : Regroup) (due : Bool) (vs bs ls ds b' vs' bs' ls' ds' : List ℕ) (l : Layout) (gs : List ℕ) where
+  pub lent_ends : l ≡ layout t → gs ≡ groups_of g
+      → EndsAs (served l busy due (mid_of 1 (length p - 1 - 1) p) (held l (lent vs bs ls ds gs))) l b o q b' (lent vs' bs' ls' ds' gs)
+      → EndsAs (served (layout t) busy due (message p) (held (layout t) (lent vs bs ls ds (groups_of g)))) (layout t) b o q b' (lent vs' bs' ls' ds' (groups_of g))
+  lent_ends e f h =
+      subst (λ m. EndsAs (served (layout t) busy due m (held (layout t) (lent vs bs ls ds (groups_of g)))) (layout t) b o q b' (lent vs' bs' ls' ds' (groups_of g))) (message_lent p)
+      (subst (λ hs. EndsAs (served (layout t) busy due (mid_of 1 (length p - 1 - 1) p) (held (layout t) (lent vs bs ls ds hs))) (layout t) b o q b' (lent vs' bs' ls' ds' hs)) f
+      (subst (λ k. EndsAs (served k busy due (mid_of 1 (length p - 1 - 1) p) (held k (lent vs bs ls ds gs))) k b o q b' (lent vs' bs' ls' ds' gs)) e h))
 
 -- .. and the group table that it leaves -----------------------------------------------------------------------------------------
 module _ (t : Table) (a : Place) (busy : ℕ) (p vs bs ls ds : List ℕ) (g : Groups) (b : List ℕ) (o : Outcome) (r : Regroup) (b' vs' bs' ls' ds' : List ℕ)
@@ -125,16 +118,22 @@ module _ (t : Table) (a : Place) (busy : ℕ) (p vs bs ls ds : List ℕ) (g : Gr
   pub packet_fits : length g.sets ≡ 5 → Fits r g
   packet_fits five = record { room = few (usable t S) refl; places = five }
 
-  pub packet_left_lem : (n : ℕ) (ps : List ℕ) → groups_by n ps ≡ table_with (regrouped r (groups_of g)) g
-      → packet_left (record { outcome = o; count = n }) ps b' vs' bs' ls' ds' ≡ packet_left_of Z b g
-  packet_left_lem n ps e =
+  -- what was lent is left as the stores are
+  pub packet_left_lem : (g' : Groups) (vs₂ bs₂ ls₂ ds₂ : List ℕ) → vs₂ ≡ vs' → bs₂ ≡ bs' → ls₂ ≡ ls' → ds₂ ≡ ds'
+      → g' ≡ table_with (regrouped r (groups_of g)) g → packet_left o g' b' vs₂ bs₂ ls₂ ds₂ ≡ packet_left_of Z b g
+  packet_left_lem g' vs₂ bs₂ ls₂ ds₂ v w n d e =
       let z : held (layout t) (lent vs' bs' ls' ds' (regrouped r (groups_of g))) ≡ Z.state = h.ends.leaves.holds in
       λ i. record {
         outcome = h.ends.outcome i;
         groups = (e ∙ ap (λ s. table_with s.groups g) z) i;
         reply = h.ends.reply i;
-        values = (sym (join_cut (layout t).sizes vs') ∙ ap (λ s. join s.values) z) i;
-        blocks = (sym (join_cut (block_sizes (layout t).curves) bs') ∙ ap (λ s. join s.blocks) z) i;
-        lengths = ap (λ s. s.lengths) z i;
-        sums = (sym (join_cut (sum_sizes (layout t).curves) ds') ∙ ap (λ s. join s.sums) z) i;
+        values = (v ∙ sym (join_cut (layout t).sizes vs') ∙ ap (λ s. join s.values) z) i;
+        blocks = (w ∙ sym (join_cut (block_sizes (layout t).curves) bs') ∙ ap (λ s. join s.blocks) z) i;
+        lengths = (n ∙ ap (λ s. s.lengths) z) i;
+        sums = (d ∙ sym (join_cut (sum_sizes (layout t).curves) ds') ∙ ap (λ s. join s.sums) z) i;
       }
+
+  -- and where nothing is made of the made groups, so is the table
+  pub packet_kept : (vs₂ bs₂ ls₂ ds₂ : List ℕ) → vs₂ ≡ vs' → bs₂ ≡ bs' → ls₂ ≡ ls' → ds₂ ≡ ds' → r ≡ Keep → length g.sets ≡ 5
+      → packet_left o g b' vs₂ bs₂ ls₂ ds₂ ≡ packet_left_of Z b g
+  packet_kept vs₂ bs₂ ls₂ ds₂ v w n d k five = packet_left_lem g vs₂ bs₂ ls₂ ds₂ v w n d (regroup_keep r g (packet_fits five) k)

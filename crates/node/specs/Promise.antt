@@ -1,26 +1,21 @@
 -- The promise of a packet's work: what it leaves in everything that was lent to it, for every input. Assumes nothing.
 use Rattle.std.specs.Prelude.{◌≡◌, Bool, true, List, ◌++◌, ℕ, ◌+◌, ◌-◌, ◌≤◌, ◌<◌, length, take, drop}
-use borrow.Rule.Slice.PartMut.{mid_of}
+use Rattle.std.specs.Prelude as R
 use Rattle.bsmp.specs.Base.{join}
-use Rattle.bsmp.specs.Board.{Table, Layout, layout, usable}
+use Rattle.bsmp.specs.Board.{Table, Layout, layout}
 use Rattle.bsmp.specs.Packet.{Place, Result, frame, packet}
 use Rattle.bsmp.specs.Store.{Lent, held, outcome_of, shown}
+use Rattle.bsmp.specs.declared.Refusal.{Refusal}
 use Rattle.bsmp.specs.declared.Outcome.{Outcome}
 use Rattle.bsmp.specs.declared.Outcome.TheVariants as O
 use Rattle.copies.specs.Put.{put, part}
-use Rattle.wire.specs.declared.Opened.{Opened}
-use Rattle.wire.specs.declared.Opened.TheVariants.{Message, Refused}
-use Rattle.records.specs.Lending.{groups_by, groups_of, table_of, lent}
-use Rattle.records.specs.declared.Records.{Records}
 use Rattle.records.specs.declared.Groups.{Groups}
-use Rattle.judging.specs.Judging.{SoundBoard}
 use Rattle.changes.specs.Changes.{LeftAs}
 use Rattle.changes.specs.declared.Regroup.{Regroup}
-use Rattle.changes.specs.declared.Regroup.TheVariants.{Make}
+use Rattle.changes.specs.declared.Regroup.TheVariants.{Keep, Make}
 use Rattle.answers.specs.declared.Spoken.{Spoken}
 use Rattle.answers.specs.declared.Spoken.TheVariants.{Reply, Run, Nothing}
-use Rattle.serve.specs.Serve.{typed_layout, SoundTypes}
-use Rattle.node.specs.declared.Done.{Done}
+use Rattle.node.specs.declared.Received.{Received}
 
 -- the group table that holds these made groups in its first places; the others are as they were
 abbrev pub table_with : List ℕ → Groups → Groups
@@ -49,14 +44,18 @@ packet_left_of x r g = record {
 }
 
 -- .. and as the code has it
-abbrev pub packet_left : Done → (sets reply values blocks lengths sums : List ℕ) → PacketLeft
-packet_left d gs r vs bs ls ds = record { outcome = d.outcome; groups = groups_by d.count gs; reply = r; values = vs; blocks = bs; lengths = ls; sums = ds }
+abbrev pub packet_left : Outcome → Groups → (reply values blocks lengths sums : List ℕ) → PacketLeft
+packet_left o g r vs bs ls ds = record { outcome = o; groups = g; reply = r; values = vs; blocks = bs; lengths = ls; sums = ds }
 
 -- for the functions below the entry ---------------------------------------------------------------------------------------
--- what comes of a packet that yields no message
-abbrev pub unopened_of : Opened → Outcome
-unopened_of (Refused r) = O.Refused r
-unopened_of (Message due) = O.Silence
+-- how a packet's work ends, and what becomes of the made groups
+abbrev pub ended : R.Result Received Refusal → Outcome
+ended (R.Ok d) = d.outcome
+ended (R.Err e) = O.Refused e
+
+abbrev pub made_of : R.Result Received Refusal → Regroup
+made_of (R.Ok d) = d.regroup
+made_of (R.Err e) = Keep
 
 -- what is said to a message, as the call ends: closed in its packet, told of, or nothing
 abbrev pub end_of : (due : Bool) → Spoken → Outcome
@@ -92,23 +91,3 @@ pub record EndsAs (z : Result) (l : Layout) (b : List ℕ) (o : Outcome) (g : Re
 pub record CarriedAs (t : Table) (a : Place) (busy : ℕ) (p : List ℕ) (x : Lent) (b : List ℕ)
     (o : Outcome) (g : Regroup) (b' : List ℕ) (y : Lent) : Type 0 where
   pub ends : EndsAs (packet t a busy (length b) p (held (layout t) x)) (layout t) b o g b' y
-
--- the front of an array, as it is lent
-abbrev pub front_of : ℕ → List ℕ → List ℕ
-front_of n xs = mid_of 0 (n - 0) xs
-
--- a usable board, whose columns and places can be lent by their fronts
-pub record BoardReady (r : Records) (cs fs : List ℕ) (g : Groups) (vs bs ls ds : List ℕ) : Type 0 where
-  pub usable_is : usable (table_of r cs fs) (held (layout (table_of r cs fs)) (lent vs bs ls ds (groups_of g))) ≡ true
-  pub sizes_inside : r.count ≤ length r.sizes
-  pub types_inside : r.count ≤ length r.writable
-  pub sets_inside : g.count ≤ length g.sets
-  pub layout_is : typed_layout (front_of r.count r.sizes) (front_of r.count r.writable) cs fs ≡ layout (table_of r cs fs)
-  pub groups_are : front_of g.count g.sets ≡ groups_of g
-  pub sound : SoundBoard (typed_layout (front_of r.count r.sizes) (front_of r.count r.writable) cs fs) (lent vs bs ls ds (front_of g.count g.sets))
-  pub sound_types : SoundTypes (front_of r.count r.writable)
-
--- what is known of a board that was tested
-pub record Tested (u : Bool) (r : Records) (cs fs : List ℕ) (g : Groups) (vs bs ls ds : List ℕ) : Type 0 where
-  pub is : u ≡ usable (table_of r cs fs) (held (layout (table_of r cs fs)) (lent vs bs ls ds (groups_of g)))
-  pub ready : u ≡ true → BoardReady r cs fs g vs bs ls ds

@@ -1,20 +1,22 @@
 -- `receive` meets its contract. Assumes nothing.
-use Rattle.wire.proofs.Opening.{message_room, message_least}
-use Rattle.node.proofs.Carrying.{board_ready, carried_unusable, carried_unopened, carried_served}
 use mathlib.Core.Path.{ap}
 use mathlib.Core.Bool.{not}
+use Rattle.wire.proofs.Opening.{message_room, message_least}
+use Rattle.std.proofs.lemmas.Result.{err_from_is_err_and}
+use Rattle.node.proofs.Carrying.{carried_unusable, carried_unopened, carried_served}
 use borrow.Author.Rules.{rules}
 use Rattle.node.proofs.receive.Goals as goal
 
-pub returns-then-not-usable : goal.returns-then-not-usable
-returns-then-not-usable c = search (carried_unusable, rules)
+pub returns-then-not-tested-clause-carried : goal.returns-then-not-tested-clause-carried
+returns-then-not-tested-clause-carried c = carried_unusable _ _ _ _ _ _ _ _ _ _ _ _ _ _ c.requires (ap not c.if-not-tested.true)
 
-pub returns-in_default : goal.returns-in_default
-returns-in_default c = search (carried_unopened, rules)
+pub returns-in_err-due-clause-carried : goal.returns-in_err-due-clause-carried
+returns-in_err-due-clause-carried c =
+    let p = err_from_is_err_and c.from_residual.result c.from_residual.ensures.1 in
+    rw (p.1, p.2) (carried_unopened _ _ _ _ _ _ _ _ _ _ _ _ _ _ c.requires (ap not c.if-not-tested.false) _ c.open.ensures _ c.in_err-due.was)
 
-pub lend-requires : goal.lend-requires
-lend-requires c = record { fact = search (board_ready, rules); in_bounds = (search (message_least, rules), search (message_room, rules)) }
+pub answer-received-requires-clause-in_bounds : goal.answer-received-requires-clause-in_bounds
+answer-received-requires-clause-in_bounds c = (search (message_least, rules), search (message_room, rules))
 
-pub returns : goal.returns
-returns c = let tested = c.requires in
-    carried_served _ _ _ _ _ _ _ _ _ _ _ _ _ _ _ _ tested (ap not c.if-not-usable.false) _ c.open-o.ensures _ _ _ (search rules) c.lend.ensures
+pub returns-clause-carried : goal.returns-clause-carried
+returns-clause-carried c = carried_served _ _ _ _ _ _ _ _ _ _ _ _ _ _ c.requires (ap not c.if-not-tested.false) _ c.open.ensures _ _ _ _ _ c.in_ok-due.was c.answer-received.ensures.ends
