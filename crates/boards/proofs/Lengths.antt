@@ -120,11 +120,3 @@ module _ (cs : List Curve) (ns : List ℕ) where
 
       pub fitted_stop : not b ≡ true → false ≡ fitting (block_sizes cs) ns
       fitted_stop k = rw (not-true b k) at here
-
-  pub fitted_end : (n first i : ℕ) → length ns ≡ curve_blocks cs → n ≡ length cs → n ≤ i → Fitted cs ns first i → true ≡ fitting (block_sizes cs) ns
-  fitted_end n first i l m h q =
-      let a : take i cs ≡ cs = take_all i cs (omega arith) in
-      let z : drop i cs ≡ [] = drop_of_length-le cs {i = i} (omega arith) in
-      let f : first ≡ curve_blocks cs = q.start ∙ ap curve_blocks a in
-      let y : drop first ns ≡ [] = drop_of_length-le ns {i = first} (omega arith) in
-      rw (z, y) at q.rest

@@ -7,7 +7,7 @@ use native.Mathlib.Decide.{ℕ_discrete}
 use native.Mathlib.Omega.{arith}
 use lib.ListN.{length}
 use lib.Dec.{eqb}
-use borrow.Author.Tests.{not-true, not-false, eq-eqb, ne_eqb, eqb-true}
+use borrow.Author.Tests.{not-true, not-false, eq-eqb, eqb-true}
 use Rattle.bsmp.specs.Base.{sum}
 use Rattle.bsmp.specs.Board.{Table, layout, sizes_of, block_sizes, full_lengths, full, fitting, sum_sizes, usable_variables, usable_curves, usable_functions, usable_groups, usable}
 use Rattle.bsmp.specs.Store.{Lent, held}
@@ -34,14 +34,6 @@ of_curves : (d c k : ℕ) → d ≡ 16 * k → c ≡ 3 * k → (d % 16 ≡ 0) ×
 of_curves d c k p q = (omega (arith, p), omega (arith, p, q))
 
 module _ (cs ds : List ℕ) where
-  pub sums_uneven : (length ds % 16 ≡ 0 → ⊥) → false ≡ eqb (3 * length ds) (16 * length cs)
-  sums_uneven h = sym (ne_eqb (3 * length ds) (16 * length cs) (λ e. curves_of_lem (length ds) (length cs) ⊥ e (λ k p q. h (of_curves (length ds) (length cs) k p q).0)))
-
-  pub sums_told : length ds % 16 ≡ 0 → eqb (length ds / 16 * 3) (length cs) ≡ eqb (3 * length ds) (16 * length cs)
-  sums_told h = bool_eq _ _
-      (λ e. eq-eqb (3 * length ds) (16 * length cs) (omega (arith, eqb-true (length ds / 16 * 3) (length cs) e)))
-      (λ e. eq-eqb (length ds / 16 * 3) (length cs) (omega (arith, eqb-true (3 * length ds) (16 * length cs) e)))
-
   all_sums : sum (sum_sizes (curves_of cs)) ≡ 16 * ((length cs + 2) / 3)
   all_sums = sum_bytes (curves_of cs) ∙ ap (16 *◌) (sym (curve_count cs))
 

@@ -1,5 +1,5 @@
 -- What is said to a packet's message, closed, and what a refusal leaves. Assumes nothing.
-use mathlib.Core.Path.{◌≡◌, refl, sym, ap, ◌∙◌, subst}
+use mathlib.Core.Path.{◌≡◌, refl, ap, ◌∙◌, subst}
 use mathlib.Core.Bool.{Bool, true, false}
 use mathlib.Core.List.{List}
 use Prim.Native.Nat.{ℕ, ◌+◌, ◌≤◌}
@@ -7,13 +7,11 @@ use native.Mathlib.Omega.{arith}
 use lib.ListN.{length}
 use Rattle.bsmp.specs.Board.{Layout}
 use Rattle.bsmp.specs.Message.{Said, replies, runs, handled}
-use Rattle.bsmp.specs.Packet.{Result, refuse, frame, ends, served}
+use Rattle.bsmp.specs.Packet.{Result, refuse, ends, served}
 use Rattle.bsmp.specs.Store.{Lent, held, outcome_of, shown}
-use Rattle.bsmp.specs.declared.FunctionNumber.{FunctionNumber}
 use Rattle.bsmp.specs.declared.Refusal.{Refusal}
 use Rattle.bsmp.specs.declared.Outcome.{Outcome}
 use Rattle.bsmp.specs.declared.Outcome.TheVariants as O
-use Rattle.copies.specs.Put.{put, part}
 use Rattle.copies.proofs.Put.{put_nil}
 use Rattle.wire.proofs.Frame.{frame_shown, frame_outcome}
 use Rattle.changes.specs.declared.Regroup.{Regroup}
@@ -21,36 +19,8 @@ use Rattle.changes.specs.declared.Regroup.TheVariants.{Keep}
 use Rattle.changes.proofs.Changes.{all_kept}
 use Rattle.answers.specs.Answers.{Spoke}
 use Rattle.answers.specs.declared.Spoken.{Spoken}
-use Rattle.answers.specs.declared.Spoken.TheVariants.{Reply, Run, Nothing}
 use Rattle.serve.specs.Serve.{ServedAs}
-use Rattle.node.specs.Promise.{end_of, closed_in, Closed, Closable, EndsAs}
-
--- what is said, closed ---------------------------------------------------------------------------------------------------
-module _ (due : Bool) (s : Spoken) (b : List ℕ) where
-  pub close_reply : (c n k : ℕ) (b' : List ℕ) → s ≡ Reply c n → k ≡ n + 5 → b' ≡ put b 0 (frame c (part b 4 n)) → Closed due s b (O.Reply k) b'
-  close_reply c n k b' e f w = rw e (record { outcome = ap O.Reply f; reply = w })
-
-  pub close_run : (f : FunctionNumber) (n : ℕ) → s ≡ Run f n → Closed due s b (O.Run f n due) b
-  close_run f n e = rw e (record { outcome = refl; reply = refl })
-
-  pub close_nothing : s ≡ Nothing → Closed due s b O.Silence b
-  close_nothing e = rw e (record { outcome = refl; reply = refl })
-
-pub reply_short : (s : Spoken) (b : List ℕ) (c n : ℕ) → Closable s b → s ≡ Reply c n → n ≤ 4099
-reply_short s b c n h e = h.short c n e
-
--- how long a reply is that was said
-said_short : (due : Bool) (x : Said) (b : List ℕ) (at : ℕ) (s : Spoken) (b' : List ℕ) → Spoke due x b at s b' → (c n : ℕ) → s ≡ Reply c n → n ≤ 4099
-said_short true (replies d p) b at s b' h c n e =
-    let q : Reply c n ≡ Reply d (length p) = sym e ∙ h.said in
-    let k : n ≡ length p = cc in
-    omega (arith, h.short)
-said_short false (replies d p) b at s b' h c n e =
-    let q : Reply c n ≡ Nothing = sym e ∙ h.said in
-    let z : ◌≡◌ {A = ℕ} 0 1 = cc in absurd (omega arith)
-said_short due (runs f i) b at s b' h c n e =
-    let q : Reply c n ≡ Run f (length i) = sym e ∙ h.said in
-    let z : ◌≡◌ {A = ℕ} 0 1 = cc in absurd (omega arith)
+use Rattle.node.specs.Promise.{end_of, closed_in, Closed, EndsAs}
 
 -- what was said to a message ends as the definition has it
 module _ (b : List ℕ) (s : Spoken) (b₁ : List ℕ) (o : Outcome) (b₂ : List ℕ) (room : 4104 ≤ length b) where
@@ -62,10 +32,6 @@ module _ (b : List ℕ) (s : Spoken) (b₁ : List ℕ) (o : Outcome) (b₂ : Lis
   )
   ended false (replies c p) h k = (k.outcome ∙ ap (end_of false) h.said, k.reply ∙ ap (closed_in b₁) h.said ∙ h.written ∙ put_nil b 4)
   ended due (runs f i) h k = (k.outcome ∙ ap (end_of due) h.said, k.reply ∙ ap (closed_in b₁) h.said ∙ h.written ∙ put_nil b 4)
-
-pub closable : (due : Bool) (l : Layout) (busy : ℕ) (m : List ℕ) (x : Lent) (b : List ℕ) (s : Spoken) (g : Regroup) (b₁ : List ℕ) (y : Lent)
-    → ServedAs due l busy m x b 4 s g b₁ y → 4104 ≤ length b → length b₁ ≡ length b → Closable s b₁
-closable due l busy m x b s g b₁ y h room e = record { short = said_short due _ b 4 s b₁ h.spoke; room = omega arith }
 
 -- the message of a packet, served and closed
 pub answer_ends : (due : Bool) (l : Layout) (busy : ℕ) (m : List ℕ) (x : Lent) (b : List ℕ) (s : Spoken) (g : Regroup) (b₁ : List ℕ) (y : Lent) (o : Outcome) (b₂ : List ℕ)

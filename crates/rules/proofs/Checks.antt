@@ -10,7 +10,7 @@ use lib.Dec.{leb, ltb, eqb, lit<}
 use lib.ListN.{length, get_or}
 use mir.Syntax.{w8, w32}
 use mir.Val.{Fits}
-use borrow.Author.Tests.{lt-ltb, le-ltb, lt-leb, le-leb, ne_eqb, ltb-true, ltb-false, leb-true, not-false}
+use borrow.Author.Tests.{lt-ltb, lt-leb, le-leb, ne_eqb, ltb-true, ltb-false, leb-true, not-false}
 use Rattle.bsmp.specs.Base.{sum, up_from, all, every, some, within}
 use Rattle.bsmp.specs.Codes.{kind_of}
 use Rattle.bsmp.specs.Board.{fits_kind, sizes_of, usable_variable, variable_rules, usable_variables, usable_curve, curve_rules, usable_curves}
@@ -82,14 +82,8 @@ variable_told v b h = by (within 1 127 v.size) refl
     by true e = rw (and_assoc w (leb 1 v.size) (leb v.size 127), h e)
     by false e = rw (and_assoc w (leb 1 v.size) (leb v.size 127), e, and-false w)
 
--- rules joined by &&, one after another; x is what the code answers
+-- rules joined by &&, one after another
 module _ (a b : Bool) where
-  pub and_next : (x : Bool) → a ≡ true → x ≡ b → x ≡ (a && b)
-  and_next x h e = rw h e
-
-  pub and_stop : a ≡ false → false ≡ (a && b)
-  and_stop h = rw h
-
   pub both_on : a ≡ true → b ≡ true → (a && b) ≡ true
   both_on h e = rw h e
 
@@ -98,8 +92,6 @@ module _ (a b : Bool) where
 
   pub right_off : b ≡ false → (a && b) ≡ false
   right_off h = rw h (and-false a)
-
-pub ruleset chain = (and_next, and_stop, both_on, left_off, right_off, lt-leb, le-leb)
 
 -- a rule that is broken breaks the board
 pub all_off : (bs : List Bool) (k : ℕ) → get_or bs k true ≡ false → all bs ≡ false
@@ -117,9 +109,6 @@ module _ (c : Curve) (b : Bool) (e : b ≡ usable_curve c) (h : not b ≡ false)
 
   pub curve_sum_fits : (s i n : ℕ) → s ≤ 268435456 * i → i < n → n ≤ 8 → Fits w32 (s + c.size * c.blocks)
   curve_sum_fits s i n k l m = record { fits = omega (arith, curve_small) }
-
-  pub curve_count_fits : (k i n : ℕ) → k ≤ 65536 * i → i < n → n ≤ 8 → Fits w32 (k + c.blocks)
-  curve_count_fits k i n q l m = record { fits = omega (arith, curve_rules_lem c (sym e ∙ not-false b h)) }
 
   pub curve_count_small : (k i : ℕ) → k ≤ 65536 * i → k + c.blocks ≤ 65536 * (i + 1)
   curve_count_small k i q = omega (arith, curve_rules_lem c (sym e ∙ not-false b h))
@@ -163,10 +152,6 @@ module _ (cs : List Curve) where
   pub curves_broken : every usable_curve cs ≡ false → usable_curves cs ≡ false
   unfolding usable_curves
   curves_broken h = all_off (curve_rules cs) 1 h
-
-  pub curves_large : (n : ℕ) → n ≡ curve_bytes cs → 65536 < n → usable_curves cs ≡ false
-  unfolding usable_curves
-  curves_large n e h = all_off (curve_rules cs) 2 (rw (← e) (lt-leb n 65536 h))
 
   pub curves_last : (k n : ℕ) → k ≡ length cs → k ≤ 8 → every usable_curve cs ≡ true → n ≡ curve_bytes cs → usable_curves cs ≡ leb n 65536
   unfolding usable_curves

@@ -8,8 +8,6 @@ use native.Mathlib.Omega.{arith}
 use lib.Dec.{leb}
 use lib.ListN.{drop, get_or}
 use Rattle.std.specs.Bool.{then_some}
-use mir.Syntax.{w32}
-use mir.Val.{Fits}
 use borrow.Author.Tests.{not-false}
 use Rattle.bsmp.specs.Base.{sum, every}
 use Rattle.bsmp.specs.Board.{sizes_of, usable_variable, usable_variables}
@@ -45,9 +43,6 @@ module _ (r : Records) (i n : ℕ) where
     module _ (l : r.count ≤ 64) (t : not b ≡ false) where
       small_size : (1 ≤ v.size) × (v.size ≤ 127)
       small_size = (variable_rules_lem v (sym e ∙ not-false b t)).1
-
-      pub total_fits : Fits w32 (n + v.size)
-      total_fits = record { fits = omega (arith, small_size, q.small) }
 
       pub counted_next : Counted (records_of r) (n + v.size) (i + 1)
       counted_next =

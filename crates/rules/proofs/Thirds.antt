@@ -7,8 +7,6 @@ use Prim.Native.Nat.{ℕ, ◌+◌, ◌*◌, ◌/◌, ◌%◌, ◌≤◌, ◌<◌
 use native.Mathlib.Omega.{arith}
 use lib.Dec.{leb, eqb}
 use lib.ListN.{length, drop, get_or}
-use mir.Syntax.{w32}
-use mir.Val.{Fits}
 use Rattle.std.specs.Prelude.{Option}
 use Rattle.std.specs.Bool.{then_some}
 use Rattle.bsmp.specs.Base.{every}
@@ -21,7 +19,7 @@ use Rattle.rules.specs.Totals.{first_size, curves_total}
 use Rattle.bsmp.proofs.Lists.{every_at}
 use Rattle.records.proofs.Walk.{Walked, walked_start, walked_next, walked_stop, walked_end, sum_next, sum_end, all_next, all_end}
 use Rattle.records.proofs.Lending.{curve_count, curve_broken}
-use Rattle.rules.proofs.Checks.{curves_many, curves_broken, curves_last, curve_fits, curve_sum_small, curve_sum_fits, curve_count_small, curve_count_fits}
+use Rattle.rules.proofs.Checks.{curves_many, curves_broken, curves_last, curve_sum_small, curve_count_small}
 
 abbrev pub of_size : ℕ → Curve → Bool
 of_size n c = eqb c.size n
@@ -76,15 +74,6 @@ module _ (cs : List Curve) (n size : ℕ) (l : n ≡ length cs) where
           few = curve_count_small x b t z k i q.few;
           alike = all_next cs n i x blank_curve l h e (of_size size) a _ _ refl q.alike;
         }
-
-        pub stepped_mul : Fits w32 (x.size * x.blocks)
-        stepped_mul = curve_fits x b t z
-
-        pub stepped_fits : n ≤ 8 → Fits w32 (s + x.size * x.blocks)
-        stepped_fits m = curve_sum_fits x b t z s i n q.small h m
-
-        pub stepped_count : n ≤ 8 → Fits w32 (k + x.blocks)
-        stepped_count m = curve_count_fits x b t z k i n q.few h m
 
     -- past the last
     pub stepped_end : (z : Option ℕ) (y : Option CurveTotal) → n ≤ 8 → n ≤ i → size ≡ first_size cs → z ≡ then_some a size
