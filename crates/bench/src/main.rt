@@ -6,6 +6,7 @@ ghost use Rattle.std.specs.Prelude.{◌≡◌, ◌+◌, ◌≤◌, length, IfSom
 use bsmp::{Outcome, Refusal};
 use records::{Groups, Records};
 use std::io::Read;
+use text::Page;
 
 const CURVES: [u32; 3] = [1, 4, 2];
 
@@ -144,15 +145,25 @@ impl Lines {
         requires { length reply.now ≡ 4104 }
     {
         self.make_room(rt);
-        let line = &mut self.bytes[self.used..];
-        let end = bench_line::put_line(number, outcome, packet, reply, line);
-        self.used += text::put_byte(line, end, b'\n');
+        let mut page = Page {
+            out: &mut self.bytes,
+            at: self.used,
+        };
+        bench_line::put_line(&mut page, number, outcome, packet, reply);
+        page.put_byte(b'\n');
+        self.used = page.at;
     }
 
-    // The line of a record that is cut off, where none waits.
+    // The line of a record that is cut off.
     fn cut(&mut self, rt: &(impl Print + Eprint), number: u64) {
-        let end = text::put_number(&mut self.bytes, 0, number);
-        self.used = text::put_text(&mut self.bytes, end, b" cut\n");
+        self.make_room(rt);
+        let mut page = Page {
+            out: &mut self.bytes,
+            at: self.used,
+        };
+        page.put_number(number);
+        page.put_text(b" cut\n");
+        self.used = page.at;
         self.write(rt);
     }
 }

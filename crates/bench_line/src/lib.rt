@@ -2,73 +2,70 @@
 #![tactic(auto)]
 
 ghost use Rattle.std.specs.Prelude.{◌≡◌, ◌+◌, ◌≤◌, ◌<◌, length};
+ghost use Rattle.text.specs.Page.{SameBuffer};
 
 use bsmp::Outcome;
+use text::Page;
 
-fn put_input(out: &mut [u8], at: usize, input: &[u8]) -> usize
-    requires { (at ≤ 51) × (length input.now ≤ 15) × (9000 ≤ length out.old) }
-    ensures { result < 9000 }
+fn put_input(page: &mut Page, input: &[u8])
+    requires { (length input.now ≤ 15) × (page.old.at + 31 ≤ length page.old.out.now) }
+    ensures at { page.new.at ≤ page.old.at + 31 }
+    ensures room { SameBuffer page.old page.new }
 {
     if input.is_empty() {
-        return text::put_text(out, at, b"-");
+        page.put_text(b"-");
+    } else {
+        page.put_hex(input);
     }
-    text::put_hex(out, at, input)
 }
 
 // A function to be run. The input is at place 5 of the packet, and no longer than 15 bytes; the tests keep this function free of that.
-fn put_run(
-    out: &mut [u8],
-    at: usize,
-    function: usize,
-    packet: &[u8],
-    input: usize,
-    due: bool,
-) -> usize
-    requires { (at ≤ 20) × (9000 ≤ length out.old) }
-    ensures { result < 9000 }
+fn put_run(page: &mut Page, function: usize, packet: &[u8], input: usize, due: bool)
+    requires { page.old.at + 62 ≤ length page.old.out.now }
+    ensures at { page.new.at ≤ page.old.at + 62 }
+    ensures room { SameBuffer page.old page.new }
 {
-    let word: &[u8] = if due { b" run " } else { b" runquiet " };
-    let a = text::put_text(out, at, word);
-    let b = text::put_number(out, a, function as u64);
-    let c = text::put_text(out, b, b" ");
+    page.put_text(if due { b" run " } else { b" runquiet " });
+    page.put_number(function as u64);
+    page.put_text(b" ");
     if 15 < input {
-        return c;
+        return;
     }
-    match packet.get(5..5 + input) {
-        Some(input) => put_input(out, c, input),
-        None => c,
+    if let Some(input) = packet.get(5..5 + input) {
+        put_input(page, input);
     }
 }
 
 // A reply of n bytes; the test keeps this function free of the promise that it stands in the buffer.
-fn put_answer(out: &mut [u8], at: usize, reply: &[u8], n: usize) -> usize
-    requires { (at ≤ 20) × (length reply.now ≡ 4104) × (9000 ≤ length out.old) }
-    ensures { result < 9000 }
+fn put_answer(page: &mut Page, reply: &[u8], n: usize)
+    requires { (length reply.now ≡ 4104) × (page.old.at + 8216 ≤ length page.old.out.now) }
+    ensures at { page.new.at ≤ page.old.at + 8216 }
+    ensures room { SameBuffer page.old page.new }
 {
-    let a = text::put_text(out, at, b" answer ");
-    match reply.get(..n) {
-        Some(reply) => text::put_hex(out, a, reply),
-        None => a,
+    page.put_text(b" answer ");
+    if let Some(reply) = reply.get(..n) {
+        page.put_hex(reply);
     }
 }
 
-// The line of an outcome, without its end; answers the index after it.
-pub fn put_line(number: u64, o: Outcome, packet: &[u8], reply: &[u8], out: &mut [u8]) -> usize
-    requires { (length reply.now ≡ 4104) × (9000 ≤ length out.old) }
-    ensures { result < 9000 }
+// The line of an outcome, without its end.
+pub fn put_line(page: &mut Page, number: u64, o: Outcome, packet: &[u8], reply: &[u8])
+    requires { (length reply.now ≡ 4104) × (page.old.at + 9000 ≤ length page.old.out.now) }
+    ensures at { page.new.at < page.old.at + 9000 }
+    ensures room { SameBuffer page.old page.new }
 {
-    let a = text::put_number(out, 0, number);
+    page.put_number(number);
     match o {
-        Outcome::Reply(n) => put_answer(out, a, reply, n),
-        Outcome::Silence => text::put_text(out, a, b" silent"),
+        Outcome::Reply(n) => put_answer(page, reply, n),
+        Outcome::Silence => page.put_text(b" silent"),
         Outcome::Run {
             function,
             input,
             due,
-        } => put_run(out, a, function.0, packet, input, due),
+        } => put_run(page, function.0, packet, input, due),
         Outcome::Refused(r) => {
-            let b = text::put_text(out, a, b" refused ");
-            text::put_number(out, b, u8::from(r) as u64)
+            page.put_text(b" refused ");
+            page.put_number(u8::from(r) as u64);
         }
     }
 }
