@@ -110,7 +110,8 @@ fn fitting_lengths(curves: &[u32], total: CurveTotal, lengths: &[u16]) -> bool
     }
 }
 
-// Every rule, one after another. A board that is to be fresh is tested with its blocks full: it must have a length for each, whatever it is.
+// Every rule, one after another. A board that is to be fresh is tested with its blocks full: it must have a length for each, whatever it is; in
+// that last test alone the two differ, so a flag says which it is.
 pub fn usable_board(board: &Board, fresh: bool) -> bool
     ensures { let t = table_lent board.now in
         let s = held (layout t) (board_lent board.now) in

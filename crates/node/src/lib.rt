@@ -122,7 +122,7 @@ fn receive(
     Ok(received)
 }
 
-// Any packet, on any board.
+// Any packet, on any board. What is lent comes one by one, as the C interface lends it.
 pub fn packet(
     records: &Records,
     curves: &[u32],

@@ -8,7 +8,8 @@ ghost use Rattle.records.specs.Lending.{record_at, writable_marks, curves_of, fu
 
 use bsmp::{Curve, CurveNumber, Function, FunctionNumber, Variable};
 
-// The variable records by columns; of the places from `count` on, nothing counts.
+// The variable records by columns; of the places from `count` on, nothing counts. They stay columns, of a fixed length with a count beside, since
+// no heap is used, fronts of a column are lent to a message's work, and many records are tested at once.
 #[derive(Clone, Copy)]
 pub struct Records {
     pub count: usize,
@@ -31,7 +32,7 @@ impl Records {
     }
 }
 
-// The made groups as sets; of the places from `count` on, nothing counts.
+// The made groups as sets; of the places from `count` on, nothing counts. It is the C interface's struct.
 #[repr(C)]
 #[derive(Drop)]
 pub struct Groups {
@@ -72,7 +73,7 @@ pub fn marks_of(types: &[u8]) -> u64
     marks
 }
 
-// How many curve records are lent, a broken one at the end included.
+// How many curve records are lent, a broken one at the end included. Not by `div_ceil`, which the portable edition's oldest Rust lacks.
 #[tactic(auto, using(crate::proofs::Lending::curve_count))]
 pub fn curve_count(curves: &[u32]) -> usize
     ensures { result ≡ length (curves_of curves.now) }
