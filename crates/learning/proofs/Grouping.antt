@@ -1,19 +1,19 @@
 -- A group put at its place in the table, the next one included, or left out where it can't be. Assumes nothing.
 use mathlib.Core.Path.{◌≡◌, refl, sym, ap, ap₂, ◌∙◌}
-use mathlib.Core.Bool.{Bool, true, false, not, ◌&&◌, true≢false}
+use mathlib.Core.Bool.{Bool, true, false, not, ◌&&◌}
 use mathlib.Core.List.{List, [], ◌∷◌, ◌++◌, map}
-use Prim.Native.Nat.{ℕ, suc, ◌+◌, ◌-◌, ◌≤◌, ◌<◌}
+use Prim.Native.Nat.{ℕ, suc, ◌+◌, ◌≤◌, ◌<◌}
 use native.Mathlib.Omega.{arith}
 use native.Mathlib.Numerals.{add-one}
 use native.Mathlib.Decide.{ℕ_discrete}
-use borrow.Author.Tests.{le-leb, lt-leb, lt-ltb, le-ltb, ltb-true, not-true, not-false}
+use borrow.Author.Tests.{lt-leb, lt-ltb, le-ltb, ltb-true}
+use Rattle.std.proofs.Common.{max}
 use lib.Dec.{leb, ltb}
 use lib.ListN.{length, take, drop, get_or, set, length-map, length-set}
 use lib.Seq.{ext_get_or, get_or-set_same, get_or-set_other, take-suc-set}
 use Rattle.bsmp.specs.Base.{every}
 use Rattle.bsmp.specs.Board.{variable, Layout, set_of}
 use Rattle.bsmp.specs.Message.{no_variable}
-use Rattle.bsmp.specs.declared.GroupNumber.{GroupNumber}
 use Rattle.bsmp.proofs.Lists.{every_at}
 use Rattle.copies.specs.Put.{put}
 use Rattle.copies.proofs.Put.{set_put}
@@ -22,9 +22,11 @@ use Rattle.records.proofs.Lending.{made_count, made_at, groups_lent}
 use Rattle.sets.specs.Promises.{Below, Named}
 use Rattle.sets.proofs.Ids.{below_more}
 use Rattle.asking.specs.Learned.{Learned}
-use Rattle.asking.specs.Learning.{can_group, regrouped}
+use Rattle.asking.specs.Learning.{with_made, can_group, regrouped}
+use Rattle.learned.specs.Table.{held_table}
+use Rattle.learned.specs.declared.LearnedTable.{LearnedTable}
+use Rattle.learned.proofs.Fronts.{size_count}
 use Rattle.asking.proofs.Follows.{regrouped_at, regrouped_last}
-use Rattle.learning.specs.Taking.{Regrouped, Shown}
 use Rattle.learning.proofs.Taking.{known_ids}
 
 -- the table's places with one of them set -----------------------------------------------------------------------------------------
@@ -53,9 +55,8 @@ set_split l i a h = set_put l i a h ∙ ap (λ k. take i l ++ a ∷ drop k l) (a
 known_below : (n : ℕ) (ids : List ℕ) → known_ids n ids ≡ true → Below n ids
 known_below n ids h = record { below = λ k i. ltb-true (get_or ids k 0) n (every_at (λ i. ltb i n) ids k 0 h i) }
 
-pub ids_below : (n : ℕ) (ids : List ℕ) (b : Bool) → b ≡ known_ids n ids → not b ≡ false → n ≤ 64 → Below 64 ids
-ids_below n ids true e f h = below_more n 64 ids (known_below n ids (sym e)) h
-ids_below n ids false e f h = absurd (true≢false f)
+pub ids_below : (n : ℕ) (ids : List ℕ) (b : Bool) → b ≡ known_ids n ids → b ≡ true → n ≤ 64 → Below 64 ids
+ids_below n ids b e f h = below_more n 64 ids (known_below n ids (sym e ∙ f)) h
 
 and_no : (a : Bool) → (a && false) ≡ false
 and_no true = refl
@@ -69,65 +70,69 @@ all_known l (i ∷ ids) = ap₂ ◌&&◌ (twice (ltb i (length l.sizes))) (all_k
     twice true = refl
     twice false = refl
 
-module _ (v n p : ℕ) (gs ids : List ℕ) where
-  abbrev before : List ℕ
-  before = groups_of (groups_by n gs)
+module _ (t : LearnedTable) (p : ℕ) (ids : List ℕ) where
+  abbrev x : Learned
+  x = held_table t
+
+  abbrev Puts : Learned → Type 0
+  Puts y = y ≡ with_made x (regrouped x p (map variable ids))
+
+  sizes : length x.layout.sizes ≡ t.variables
+  sizes = sym (size_count t.variables t.sizes)
+
+  groups : length x.groups ≡ t.groups
+  groups = sym (made_count t.groups t.sets)
 
   -- left out -----------------------------------------------------------------------------------------------------------------------------
-  left : ((x : Learned) → length x.layout.sizes ≡ v → x.groups ≡ before
-      → (leb (length x.layout.sizes) 64 && leb p (length x.groups) && ltb p 5 && can_group x.layout (map variable ids)) ≡ false) → Regrouped v before p ids before
+  left : (leb (length x.layout.sizes) 64 && leb p (length x.groups) && ltb p 5 && can_group x.layout (map variable ids)) ≡ false → Puts x
   unfolding regrouped
-  left h = record { is = λ x a b. sym (rw (h x a b) b) }
+  left h = ap (with_made x) (sym (rw h))
 
-  pub past_next : n < p → Regrouped v before p ids before
-  past_next h = left (λ x a b. let k : length x.groups < p = omega (arith, ap length b, made_count n gs) in rw (lt-leb p (length x.groups) k, and_no (leb (length x.layout.sizes) 64)))
+  pub past_next : t.groups < p → Puts x
+  past_next h = let k : length x.groups < p = omega (arith, groups) in left (rw (lt-leb p (length x.groups) k, and_no (leb (length x.layout.sizes) 64)))
 
-  pub past_fifth : 5 ≤ p → Regrouped v before p ids before
-  past_fifth h = left (λ x a b. rw (le-ltb p 5 h, and_no (leb (length x.layout.sizes) 64 && leb p (length x.groups))))
+  pub past_fifth : 5 ≤ p → Puts x
+  past_fifth h = left (rw (le-ltb p 5 h, and_no (leb (length x.layout.sizes) 64 && leb p (length x.groups))))
 
-  pub past_variables : 64 < v → Regrouped v before p ids before
-  past_variables h = left (λ x a b. rw (a, lt-leb v 64 h))
+  pub past_variables : 64 < t.variables → Puts x
+  past_variables h = left (rw (sizes, lt-leb t.variables 64 h))
 
-  pub no_ids : length ids ≡ 0 → Regrouped v before p ids before
-  no_ids h = left (λ x a b. rw (length-map ids variable, h, and_no (leb (length x.layout.sizes) 64 && leb p (length x.groups) && ltb p 5)))
+  pub no_ids : length ids ≡ 0 → Puts x
+  no_ids h = left (rw (length-map ids variable, h, and_no (leb (length x.layout.sizes) 64 && leb p (length x.groups) && ltb p 5)))
 
-  pub unknown_ids : (b : Bool) → b ≡ known_ids v ids → not b ≡ true → Regrouped v before p ids before
+  pub unknown_ids : (b : Bool) → b ≡ known_ids t.variables ids → b ≡ false → Puts x
   unknown_ids b e h =
-      left (λ x a c. rw (all_known x.layout ids, a, sym e ∙ not-true b h, and_no (ltb 0 (length (map variable ids))), and_no (leb v 64 && leb p (length x.groups) && ltb p 5)))
+      left (rw (all_known x.layout ids, sizes, sym e ∙ h, and_no (ltb 0 (length (map variable ids))), and_no (leb t.variables 64 && leb p (length x.groups) && ltb p 5)))
 
   -- taken --------------------------------------------------------------------------------------------------------------------------------
-  module _ (s : ℕ) (named : Named ids s) (five : length gs ≡ 5) (near : p ≤ n) (few : p < 5) (small : v ≤ 64) (some : length ids ≡ 0 → ⊥) (b : Bool) (e : b ≡ known_ids v ids) (h : not b ≡ false) where
-    can : (x : Learned) → length x.layout.sizes ≡ v → can_group x.layout (map variable ids) ≡ true
-    can x a = rw (length-map ids variable, lt-ltb 0 (length ids) (positive (length ids) some), all_known x.layout ids, a, sym e ∙ not-false b h)
+  module _ (s : ℕ) (named : Named ids s) (five : length t.sets ≡ 5) (near : p ≤ t.groups) (few : p < 5) (small : t.variables ≤ 64) (some : length ids ≡ 0 → ⊥) (b : Bool) (e : b ≡ known_ids t.variables ids) (h : b ≡ true) where
+    can : can_group x.layout (map variable ids) ≡ true
+    can = rw (length-map ids variable, lt-ltb 0 (length ids) (positive (length ids) some), all_known x.layout ids, sizes, sym e ∙ h)
       where
         positive : (k : ℕ) → (k ≡ 0 → ⊥) → 0 < k
         positive k f = omega arith
 
-    the_set : (x : Learned) → length x.layout.sizes ≡ v → s ≡ set_of x.layout (map variable ids)
-    the_set x a = named.set_is x.layout (rw a (known_below v ids (sym e ∙ not-false b h)))
+    the_set : s ≡ set_of x.layout (map variable ids)
+    the_set = named.set_is x.layout (rw sizes (known_below t.variables ids (sym e ∙ h)))
 
-    pub put_there : p < n → Regrouped v before p ids (groups_of (groups_by n (set gs p s)))
-    put_there k = record {
-      is = λ x a c.
-          place_set gs n p s (omega arith) k ∙ set_split before p s (omega (arith, made_count n gs))
-          ∙ ap₂ (λ g t. take p g ++ t ∷ drop (suc p) g) (sym c) (the_set x a)
-          ∙ sym (regrouped_at x p (map variable ids) (omega (arith, a)) (omega (arith, ap length c, made_count n gs)) few (can x a));
-    }
+    put_there : p < t.groups → Puts (with_made x (groups_of (groups_by t.groups (set t.sets p s))))
+    put_there k =
+        ap (with_made x)
+        (place_set t.sets t.groups p s (omega arith) k ∙ set_split x.groups p s (omega (arith, groups))
+        ∙ ap (λ r. take p x.groups ++ r ∷ drop (suc p) x.groups) the_set
+        ∙ sym (regrouped_at x p (map variable ids) (omega (arith, sizes)) (omega (arith, groups)) few can))
 
-    pub put_next : n ≤ p → Regrouped v before p ids (groups_of (groups_by (n + 1) (set gs p s)))
-    put_next k = record {
-      is = λ x a c.
-          let z : p ≡ n = omega arith in
-          let l : length x.groups ≡ p = omega (arith, ap length c, made_count n gs) in
-          place_next gs n p s (omega arith) z ∙ ap₂ (λ g t. g ++ t ∷ []) (sym c) (the_set x a)
-          ∙ sym (regrouped_last x (map variable ids) (omega (arith, a)) (omega arith) (can x a))
-          ∙ ap (λ j. regrouped x j (map variable ids)) l;
-    }
+    put_next : p ≡ t.groups → Puts (with_made x (groups_of (groups_by (t.groups + 1) (set t.sets p s))))
+    put_next z =
+        let l : length x.groups ≡ p = omega (arith, groups) in
+        ap (with_made x)
+        (place_next t.sets t.groups p s (omega arith) z ∙ ap (λ r. x.groups ++ r ∷ []) the_set
+        ∙ sym (regrouped_last x (map variable ids) (omega (arith, sizes)) (omega arith) can)
+        ∙ ap (λ j. regrouped x j (map variable ids)) l)
 
--- one that was shown ----------------------------------------------------------------------------------------------------------------------
-module _ (v n : ℕ) (gs ids : List ℕ) (g : GroupNumber) where
-  pub standard_shown : g.0 < 3 → Shown v (groups_of (groups_by n gs)) g ids (groups_of (groups_by n gs))
-  standard_shown h = record { is = λ x a b. rw (lt-leb 3 g.0 h) (sym b) }
-
-  pub made_shown : (after : List ℕ) → 3 ≤ g.0 → Regrouped v (groups_of (groups_by n gs)) (g.0 - 3) ids after → Shown v (groups_of (groups_by n gs)) g ids after
-  made_shown after h r = record { is = λ x a b. rw (le-leb 3 g.0 h) (r.is x a b) }
+    pub put_in : (m : ℕ) → m ≡ max t.groups (p + 1) → Puts (with_made x (groups_of (groups_by m (set t.sets p s))))
+    put_in m f = by (ℕ_discrete p t.groups)
+      where
+        by : Dec (p ≡ t.groups) → Puts (with_made x (groups_of (groups_by m (set t.sets p s))))
+        by (yes z) = let g : m ≡ t.groups + 1 = omega arith in rw g (put_next z)
+        by (no z) = let k : p < t.groups = omega arith in let g : m ≡ t.groups = omega arith in rw g (put_there k)

@@ -1,10 +1,10 @@
 -- A reply that is heard teaches what its payload says; an error and a refusal teach nothing. Assumes nothing.
 use mathlib.Core.Path.{◌≡◌, refl, sym, ap, ap₂, ◌∙◌}
-use mathlib.Core.Bool.{Bool, true, false, cond, not, ◌&&◌, ◌||◌, false≢true}
+use mathlib.Core.Bool.{Bool, true, false, cond, ◌&&◌, ◌||◌}
 use mathlib.Core.List.{List, map}
 use Prim.Native.Nat.{ℕ, ◌-◌, ◌*◌, ◌/◌, ◌%◌, ◌≤◌}
 use native.Mathlib.Omega.{arith}
-use borrow.Author.Tests.{leb-true, eqb-true, not-true, not-false}
+use borrow.Author.Tests.{leb-true, eqb-true}
 use borrow.Rule.Slice.PartMut.{mid_of}
 use lib.Dec.{leb, eqb}
 use lib.ListN.{length, take, drop, length-map, length-take, length-drop}
@@ -20,10 +20,14 @@ use Rattle.asking.specs.declared.Request.{Request}
 use Rattle.asking.specs.declared.Request.TheVariants.{Version, ListVariables, ListGroups, ShowGroup, ListCurves, ReadSum, ListFunctions, ReadVariable, ReadGroup, WriteVariable, WriteGroup}
 use Rattle.asking.specs.declared.Request.TheVariants.{MaskVariable, MaskGroup, WriteRead, MakeGroup, RemoveGroups, ReadBlock, WriteBlock, RenewSum, RunFunction}
 use Rattle.asking.specs.declared.Told.{Told}
+use Rattle.asking.specs.declared.Told.TheVariants as T
+use Rattle.bsmp.specs.declared.Refusal.{Refusal}
+use Rattle.bsmp.specs.declared.WireError.{WireError}
+use Rattle.std.specs.Prelude.{Ok, Err}
 use Rattle.asking.proofs.Lists.{between}
 use Rattle.asking.proofs.Frames.{taken}
 use Rattle.asking.proofs.Places.{payload_place}
-use Rattle.learning.specs.Taking.{is_told, Answers, taught_by, heard_left, heard_of}
+use Rattle.learning.specs.Taking.{Answers, taught_by, heard_left, heard_of}
 
 -- what an answer has, by its request -----------------------------------------------------------------------------------------------
 module _ (x : Learned) (c : ℕ) (p : List ℕ) where
@@ -76,28 +80,48 @@ module _ (x : Learned) (c : ℕ) (p : List ℕ) where
   codeless r d (Wanted.digest v) = refl
   codeless r d (Wanted.output f) = refl
 
--- what is not told teaches nothing ----------------------------------------------------------------------------------------------------
-untaught : (x : Learned) (r : Request) (d : List ℕ) (h : Hearing) → is_told (told_of h) ≡ false → learning x r d h ≡ x
-unfolding taught
-untaught x r d (Hearing.refused n) e = refl
-untaught x r d (hears (is_error n)) e = refl
-untaught x r d (hears is_done) e = absurd (false≢true (sym e))
-untaught x r d (hears (is_version p)) e = refl
-untaught x r d (hears (is_variables vs)) e = absurd (false≢true (sym e))
-untaught x r d (hears (is_groups gs)) e = absurd (false≢true (sym e))
-untaught x r d (hears (is_members g is)) e = absurd (false≢true (sym e))
-untaught x r d (hears (is_curves cs)) e = absurd (false≢true (sym e))
-untaught x r d (hears (is_functions fs)) e = absurd (false≢true (sym e))
-untaught x r d (hears (is_values vs)) e = refl
-untaught x r d (hears (is_block v k b)) e = refl
-untaught x r d (hears (is_sum v b)) e = refl
-untaught x r d (hears (is_result f (gave o))) e = refl
-untaught x r d (hears (is_result f (failed o))) e = refl
+-- a refusal and an error teach nothing -----------------------------------------------------------------------------------------------
+untaught : (x : Learned) (r : Request) (d : List ℕ) (h : Hearing) (n : Refusal) → told_of h ≡ Err n → learning x r d h ≡ x
+untaught x r d (Hearing.refused m) n e = refl
+untaught x r d (hears (is_error m)) n e = cc
+untaught x r d (hears is_done) n e = cc
+untaught x r d (hears (is_version p)) n e = cc
+untaught x r d (hears (is_variables vs)) n e = cc
+untaught x r d (hears (is_groups gs)) n e = cc
+untaught x r d (hears (is_members g is)) n e = cc
+untaught x r d (hears (is_curves cs)) n e = cc
+untaught x r d (hears (is_functions fs)) n e = cc
+untaught x r d (hears (is_values vs)) n e = cc
+untaught x r d (hears (is_block v k b)) n e = cc
+untaught x r d (hears (is_sum v b)) n e = cc
+untaught x r d (hears (is_result f (gave o))) n e = cc
+untaught x r d (hears (is_result f (failed o))) n e = cc
 
-module _ (x : Learned) (to : ℕ) (r : Request) (d q : List ℕ) (t : Told) (b : Bool) (told : t ≡ told_of (hearing x to r q)) (so : b ≡ is_told t) where
-  pub nothing_heard : not b ≡ true → heard_left t x ≡ heard_of x to r d q
+error_taught : (x : Learned) (r : Request) (d : List ℕ) (h : Hearing) (n : WireError) → told_of h ≡ Ok (T.Error n) → learning x r d h ≡ x
+unfolding taught
+error_taught x r d (Hearing.refused m) n e = cc
+error_taught x r d (hears (is_error m)) n e = refl
+error_taught x r d (hears is_done) n e = cc
+error_taught x r d (hears (is_version p)) n e = cc
+error_taught x r d (hears (is_variables vs)) n e = cc
+error_taught x r d (hears (is_groups gs)) n e = cc
+error_taught x r d (hears (is_members g is)) n e = cc
+error_taught x r d (hears (is_curves cs)) n e = cc
+error_taught x r d (hears (is_functions fs)) n e = cc
+error_taught x r d (hears (is_values vs)) n e = cc
+error_taught x r d (hears (is_block v k b)) n e = cc
+error_taught x r d (hears (is_sum v b)) n e = cc
+error_taught x r d (hears (is_result f (gave o))) n e = cc
+error_taught x r d (hears (is_result f (failed o))) n e = cc
+
+module _ (x : Learned) (to : ℕ) (r : Request) (d q : List ℕ) where
+  pub refusal_heard : (n : Refusal) → Err n ≡ told_of (hearing x to r q) → heard_left (Err n) x ≡ heard_of x to r d q
   unfolding heard_of
-  nothing_heard h = ap₂ heard_left told (sym (untaught x r d (hearing x to r q) (ap is_told (sym told) ∙ sym so ∙ not-true b h)))
+  refusal_heard n e = ap₂ heard_left e (sym (untaught x r d (hearing x to r q) n (sym e)))
+
+  pub error_heard : (t : Told) (n : WireError) → t ≡ T.Error n → Ok t ≡ told_of (hearing x to r q) → heard_left (Ok t) x ≡ heard_of x to r d q
+  unfolding heard_of
+  error_heard t n f e = ap₂ heard_left e (sym (error_taught x r d (hearing x to r q) n (sym e ∙ ap Ok f)))
 
   -- an answer -----------------------------------------------------------------------------------------------------------------------------
   abbrev code : ℕ
@@ -111,17 +135,18 @@ module _ (x : Learned) (to : ℕ) (r : Request) (d q : List ℕ) (t : Told) (b :
     pub fits : answers x (wanted x r) code payload ≡ true
     pub heard : hearing x to r q ≡ hears (tells x (wanted x r) code payload)
 
-  answered_by : (h : Hearing) → hearing x to r q ≡ h → is_told (told_of h) ≡ true → Answered
-  answered_by (Hearing.refused n) e k = absurd (false≢true k)
-  answered_by (hears h) e k = let w = taken x to r q h e in by (error_reply code payload) w.fitting w.says w.whole
-    where
-      by : (v : Bool) → (v || answers x (wanted x r) code payload) ≡ true → h ≡ cond v (is_error (error_of code)) (tells x (wanted x r) code payload) → is_whole (message q) ≡ true → Answered
-      by true f s w = absurd (false≢true (sym (ap (λ z. is_told (told_of (hears z))) s) ∙ k))
-      by false f s w = record { whole = w; fits = f; heard = e ∙ ap hears s }
+  -- t was told, and is no error
+  module _ (t : Told) (told : Ok t ≡ told_of (hearing x to r q)) (no : (n : WireError) → t ≡ T.Error n → ⊥) where
+    answered_by : (h : Hearing) → hearing x to r q ≡ h → Ok t ≡ told_of h → Answered
+    answered_by (Hearing.refused n) e k = cc
+    answered_by (hears h) e k = let w = taken x to r q h e in by (error_reply code payload) w.fitting w.says w.whole
+      where
+        by : (v : Bool) → (v || answers x (wanted x r) code payload) ≡ true → h ≡ cond v (is_error (error_of code)) (tells x (wanted x r) code payload) → is_whole (message q) ≡ true → Answered
+        by true f s w = let z : t ≡ T.Error (error_of code) = (let o : Ok t ≡ Ok (T.Error (error_of code)) = k ∙ ap (λ z. told_of (hears z)) s in cc) in absurd (no (error_of code) z)
+        by false f s w = record { whole = w; fits = f; heard = e ∙ ap hears s }
 
-  module _ (h : not b ≡ false) where
     answered : Answered
-    answered = answered_by (hearing x to r q) refl (ap is_told (sym told) ∙ sym so ∙ not-false b h)
+    answered = answered_by (hearing x to r q) refl told
 
     pub reply_long : 5 ≤ length q
     reply_long =
@@ -138,7 +163,7 @@ module _ (x : Learned) (to : ℕ) (r : Request) (d q : List ℕ) (t : Told) (b :
     pub reply_room : Answers r there
     reply_room = rw payload_there (has_room x code payload r answered.fits)
 
-    pub answer_heard : (y : Learned) → y ≡ taught_by x r d there → heard_left t y ≡ heard_of x to r d q
+    pub answer_heard : (y : Learned) → y ≡ taught_by x r d there → heard_left (Ok t) y ≡ heard_of x to r d q
     unfolding heard_of
     answer_heard y e =
         ap₂ heard_left told

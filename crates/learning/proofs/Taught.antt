@@ -21,14 +21,14 @@ use Rattle.records.proofs.Lending.{made_count}
 use Rattle.asking.specs.Request.{fields_of}
 use Rattle.asking.specs.Learned.{Learned, slot_of, curves_from, functions_from}
 use Rattle.asking.specs.Reply.{wanted, tells}
-use Rattle.asking.specs.Learning.{with_made, with_curves, with_functions, regrouped, followed, taught}
+use Rattle.asking.specs.Learning.{with_made, with_curves, with_functions, regrouped, shown_groups, followed, taught}
 use Rattle.asking.specs.declared.Request.{Request}
 use Rattle.asking.specs.declared.Request.TheVariants.{ListVariables, ListGroups, ShowGroup, ListCurves, ListFunctions}
 use Rattle.asking.specs.declared.Request.TheVariants.{MakeGroup, RemoveGroups}
-use Rattle.learned.specs.Table.{sizes_in, curves_in, functions_in, table_of}
-use Rattle.learned.specs.declared.Known.{Known}
-use Rattle.learned.proofs.Fronts.{size_count, sizes_front}
-use Rattle.learning.specs.Taking.{curves_taken, functions_taken, Regrouped, Shown, known_groups, Answers, taught_by}
+use Rattle.learned.specs.Table.{sizes_in, curves_in, functions_in, learned_by, held_table}
+use Rattle.learned.specs.declared.LearnedTable.{LearnedTable}
+use Rattle.learned.proofs.Fronts.{sizes_front}
+use Rattle.learning.specs.Taking.{curves_taken, functions_taken, Answers, taught_by}
 use Rattle.learning.proofs.Taking.{low_seven}
 
 put_start : (s v : List ℕ) → put s 0 v ≡ v ++ drop (0 + length v) s
@@ -154,55 +154,50 @@ module _ (r : Request) (p : List ℕ) (a : Answers r p) where
   functions_room fs e h = omega (arith, functions_few e)
 
 -- the table after it -----------------------------------------------------------------------------------------------------------------
-module _ (k : Known) (ss gs cs fs d p : List ℕ) (r : Request) where
+module _ (t : LearnedTable) (d p : List ℕ) (r : Request) where
   abbrev x : Learned
-  x = table_of k ss gs cs fs
+  x = held_table t
 
   abbrev After : Learned → Type 0
   After y = y ≡ taught_by x r d p
 
-  pub variables_learned : r ≡ ListVariables → Answers r p → length ss ≡ 64 → (m : ℕ) (ss' : List ℕ) → ss' ≡ put ss 0 (low_seven p) → m ≡ marks_of (map (leb 128) p)
-      → After (table_of (record { variables = length p; writable = m; groups = 0; curves = k.curves; functions = k.functions }) ss' gs cs fs)
+  pub variables_learned : r ≡ ListVariables → Answers r p → length t.sizes ≡ 64 → (m : ℕ) (ss : List ℕ) → ss ≡ put t.sizes 0 (low_seven p) → m ≡ marks_of (map (leb 128) p)
+      → After (held_table (learned_by (length p) m 0 t.curves t.functions t.sets t.shapes ss t.calls))
   unfolding taught tells wanted groups_of
-  variables_learned e a h m ss' f g =
+  variables_learned e a h m ss f g =
       let n : length (low_seven p) ≡ length p = length-map p (λ b. b % 128) in
-      let z : sizes_in (length p) ss' ≡ map (λ v. v.size) (map slot_of p) =
-      ap (λ j. sizes_in j ss') (sym n) ∙ ap (sizes_in (length (low_seven p))) f ∙ sizes_in_lem ss (low_seven p) (omega (arith, variables_few r p a e)) ∙ sym (map_map slot_of (λ v. v.size) p) in
+      let z : sizes_in (length p) ss ≡ map (λ v. v.size) (map slot_of p) =
+      ap (λ j. sizes_in j ss) (sym n) ∙ ap (sizes_in (length (low_seven p))) f ∙ sizes_in_lem t.sizes (low_seven p) (omega (arith, variables_few r p a e)) ∙ sym (map_map slot_of (λ v. v.size) p) in
       let w : m ≡ marks_of (map (λ v. v.writable) (map slot_of p)) = g ∙ ap marks_of (sym (map_map slot_of (λ v. v.writable) p)) in
-      rw e (ap₂ (λ i j. record { layout = record { sizes = i; writable = j; curves = curves_in k.curves cs; functions = functions_in k.functions fs }; groups = [] }) z w)
+      rw e (ap₂ (λ i j. record { layout = record { sizes = i; writable = j; curves = curves_in t.curves t.shapes; functions = functions_in t.functions t.calls }; groups = [] }) z w)
 
-  pub groups_learned : r ≡ ListGroups → (n : ℕ) (k' : Known) → n ≡ min (length p - 3) k.groups → k' ≡ known_groups k n → After (table_of k' ss gs cs fs)
+  pub groups_learned : r ≡ ListGroups → (n : ℕ) → n ≡ min (length p - 3) t.groups → After (with_made x (groups_of (groups_by n t.sets)))
   unfolding taught tells wanted
-  groups_learned e n k' f g =
-      rw (e, g) (ap (with_made x) (ap (λ j. groups_of (groups_by j gs)) f ∙ groups_in k.groups (length p - 3) gs
-      ∙ ap (λ j. take (j - 3) (groups_of (groups_by k.groups gs))) (sym (length-map p slot_of))))
+  groups_learned e n f =
+      rw e (ap (with_made x) (ap (λ j. groups_of (groups_by j t.sets)) f ∙ groups_in t.groups (length p - 3) t.sets
+      ∙ ap (λ j. take (j - 3) (groups_of (groups_by t.groups t.sets))) (sym (length-map p slot_of))))
 
-  pub members_learned : (g : GroupNumber) (n : ℕ) (gs' : List ℕ) (k' : Known) → r ≡ ShowGroup g → Shown k.variables (groups_of (groups_by k.groups gs)) g p (groups_of (groups_by n gs'))
-      → k' ≡ known_groups k n → After (table_of k' ss gs' cs fs)
+  pub members_learned : (g : GroupNumber) (y : Learned) → r ≡ ShowGroup g → y ≡ with_made x (shown_groups x g (map variable p)) → After y
   unfolding taught tells wanted
-  members_learned g n gs' k' e h f = rw (e, f) (ap (with_made x) (h.is x (sym (size_count k.variables ss)) refl))
+  members_learned g y e h = rw e h
 
-  pub curves_learned : r ≡ ListCurves → Answers r p → (cs' : List ℕ) → cs' ≡ put cs 0 (curves_taken (curves_from p))
-      → After (table_of (record { variables = k.variables; writable = k.writable; groups = k.groups; curves = length p / 5; functions = k.functions }) ss gs cs' fs)
+  pub curves_learned : r ≡ ListCurves → Answers r p → (cs : List ℕ) → cs ≡ put t.shapes 0 (curves_taken (curves_from p)) → After (with_curves x (curves_in (length p / 5) cs))
   unfolding taught tells wanted
-  curves_learned e a cs' f =
+  curves_learned e a cs f =
       let n : length p / 5 ≡ length (curves_from p) = omega (arith, (curves_whole r p a e).1) in
-      rw e (ap (with_curves x) (ap₂ curves_in n f ∙ curves_in_lem cs (curves_from p)))
+      rw e (ap (with_curves x) (ap₂ curves_in n f ∙ curves_in_lem t.shapes (curves_from p)))
 
-  pub functions_learned : r ≡ ListFunctions → (fs' : List ℕ) → fs' ≡ put fs 0 (functions_taken p)
-      → After (table_of (record { variables = k.variables; writable = k.writable; groups = k.groups; curves = k.curves; functions = length p }) ss gs cs fs')
+  pub functions_learned : r ≡ ListFunctions → (fs : List ℕ) → fs ≡ put t.calls 0 (functions_taken p) → After (with_functions x (functions_in (length p) fs))
   unfolding taught tells wanted
-  functions_learned e fs' f = rw e (ap (with_functions x) (ap (functions_in (length p)) f ∙ functions_in_lem fs p))
+  functions_learned e fs f = rw e (ap (with_functions x) (ap (functions_in (length p)) f ∙ functions_in_lem t.calls p))
 
-  pub make_followed : r ≡ MakeGroup → (n : ℕ) (gs' : List ℕ) (k' : Known) → Regrouped k.variables (groups_of (groups_by k.groups gs)) k.groups d (groups_of (groups_by n gs'))
-      → k' ≡ known_groups k n → After (table_of k' ss gs' cs fs)
+  pub make_followed : (y : Learned) → r ≡ MakeGroup → y ≡ with_made x (regrouped x t.groups (map variable d)) → After y
   unfolding taught tells wanted followed fields_of
-  make_followed e n gs' k' h f =
-      rw (e, f) (ap (with_made x) (h.is x (sym (size_count k.variables ss)) refl ∙ ap (λ j. regrouped x j (map variable d)) (made_count k.groups gs)))
+  make_followed y e h = rw e (h ∙ ap (λ j. with_made x (regrouped x j (map variable d))) (made_count t.groups t.sets))
 
-  pub remove_followed : r ≡ RemoveGroups → (k' : Known) → k' ≡ known_groups k 0 → After (table_of k' ss gs cs fs)
+  pub remove_followed : r ≡ RemoveGroups → After (with_made x (groups_of (groups_by 0 t.sets)))
   unfolding taught tells wanted followed fields_of groups_of
-  remove_followed e k' f = rw (e, f)
+  remove_followed e = rw e
 
   -- all else teaches nothing
   pub nothing_learned : (q : Request) → r ≡ q → taught_by x q d p ≡ x → After x

@@ -1,57 +1,26 @@
 // What is learned by a reply: the lists taken over, whole or not at all, and an accepted 30 and 32 followed.
 #![tactic(auto)]
 
-ghost use Rattle.std.specs.Prelude.{◌≡◌, map, ◌-◌, ◌*◌, ◌%◌, ◌≤◌, min, leb, ltb, length};
+ghost use Rattle.std.specs.Prelude.{◌≡◌, map, ◌*◌, ◌%◌, ◌≤◌, leb, ltb, length};
 ghost use Rattle.bsmp.specs.Base.{every, marks_of};
+ghost use Rattle.bsmp.specs.Board.{variable};
 ghost use Rattle.copies.specs.Put.{put};
 ghost use Rattle.asking.specs.Learned.{curves_from};
-ghost use Rattle.records.specs.Lending.{groups_by, groups_of};
-ghost use Rattle.learned.specs.Table.{table_of};
-ghost use Rattle.learning.specs.Taking.{is_told, curves_taken, functions_taken, Regrouped, Shown, known_groups, Answers, taught_by, heard_left, heard_of};
+ghost use Rattle.asking.specs.Learning.{with_made, regrouped, shown_groups};
+ghost use Rattle.learned.specs.Table.{held_table};
+ghost use Rattle.learning.specs.Taking.{curves_taken, functions_taken, Answers, taught_by, heard_left, heard_of};
 
 use asking::{Request, Told};
-use bsmp::GroupNumber;
-use learned::Known;
-
-// What was heard, and how much is known then.
-#[derive(Clone, Copy)]
-pub struct Heard {
-    pub told: Told,
-    pub known: Known,
-}
-
-// Whether an answer was heard, no error and no refusal.
-fn is_told(told: Told) -> bool
-    ensures { result ≡ is_told told }
-{
-    match told {
-        Told::Error(_) => false,
-        Told::Done => true,
-        Told::Version => true,
-        Told::Variables(_) => true,
-        Told::Groups(_) => true,
-        Told::Members(_) => true,
-        Told::Curves(_) => true,
-        Told::Functions(_) => true,
-        Told::Values(_) => true,
-        Told::Block(_) => true,
-        Told::Sum => true,
-        Told::Output(_) => true,
-        Told::Failed(_) => true,
-        Told::Refused(_) => false,
-    }
-}
+use bsmp::{GroupNumber, Refusal};
+use learned::LearnedTable;
 
 // The sizes of list 03, each into its place.
 fn take_sizes(list: &[u8], sizes: &mut [u8])
     requires { length list.now ≤ length sizes.old }
     ensures { sizes.new ≡ put sizes.old 0 (map (λ b. b % 128) list.now) }
 {
-    let n = list.len();
-    let mut i = 0;
-    while i < n {
+    for i in 0..list.len() {
         sizes[i] = list[i] % 128;
-        i += 1;
     }
 }
 
@@ -61,10 +30,8 @@ fn marks_in(list: &[u8]) -> u64
     ensures { result ≡ marks_of (map (leb 128) list.now) }
 {
     let mut marks: u64 = 0;
-    let mut i = list.len();
-    while 0 < i {
-        i -= 1;
-        marks = 2 * marks + (list[i] / 128) as u64;
+    for i in (0..list.len()).rev() {
+        marks = 2 * marks + u64::from(list[i] / 128);
     }
     marks
 }
@@ -74,16 +41,11 @@ fn take_curves(list: &[u8], curves: &mut [u32])
     requires { 3 * length list.now ≤ 5 * length curves.old }
     ensures { curves.new ≡ put curves.old 0 (curves_taken (curves_from list.now)) }
 {
-    let n = list.len();
-    let mut at = 0;
-    let mut i = 0;
-    while i + 4 < n {
-        let c = listed::curve_in(list, i);
-        curves[at] = c.writable;
-        curves[at + 1] = c.size;
-        curves[at + 2] = c.blocks;
-        at += 3;
-        i += 5;
+    for i in 0..list.len() / 5 {
+        let c = listed::curve_in(list, 5 * i);
+        curves[3 * i] = c.writable;
+        curves[3 * i + 1] = c.size;
+        curves[3 * i + 2] = c.blocks;
     }
 }
 
@@ -92,12 +54,9 @@ fn take_functions(list: &[u8], functions: &mut [u8])
     requires { 2 * length list.now ≤ length functions.old }
     ensures { functions.new ≡ put functions.old 0 (functions_taken list.now) }
 {
-    let n = list.len();
-    let mut i = 0;
-    while i < n {
+    for i in 0..list.len() {
         functions[2 * i] = list[i] / 16;
         functions[2 * i + 1] = list[i] % 16;
-        i += 1;
     }
 }
 
@@ -105,206 +64,97 @@ fn take_functions(list: &[u8], functions: &mut [u8])
 fn are_known(ids: &[u8], variables: u64) -> bool
     ensures { result ≡ every (λ i. ltb i variables) ids.now }
 {
-    let n = ids.len();
-    let mut i = 0;
-    while i < n {
-        if variables <= ids[i] as u64 {
+    for id in ids {
+        if variables <= u64::from(*id) {
             return false;
         }
-        i += 1;
     }
     true
 }
 
-// The group of these variables at a place, the next one included; it is left out where it can't be. How many there are then.
-fn put_group(variables: u64, groups: u64, sets: &mut [u64], place: u64, ids: &[u8]) -> u64
-    requires { length sets.old ≡ 5 }
-    ensures { let before = groups_of (groups_by groups sets.old) in
-        Regrouped variables before place ids.now (groups_of (groups_by result sets.new)) }
+// The group of these variables at a place, the next one included; it is left out where it can't be.
+fn put_group(table: &mut LearnedTable, place: u64, ids: &[u8])
+    ensures { let x = held_table table.old in held_table table.new ≡ with_made x (regrouped x place (map variable ids.now)) }
 {
-    if groups < place {
-        return groups;
-    }
-    if 5 <= place {
-        return groups;
-    }
-    if 64 < variables {
-        return groups;
-    }
-    if ids.len() == 0 {
-        return groups;
+    let variables = table.variables;
+    if table.groups < place || 5 <= place || 64 < variables || ids.len() == 0 {
+        return;
     }
     if !are_known(ids, variables) {
-        return groups;
+        return;
     }
-    let at = place as usize;
-    let set = sets::set_of(ids);
-    sets[at] = set;
-    if place < groups {
-        return groups;
-    }
-    groups + 1
+    table.sets[place as usize] = sets::set_of(ids);
+    table.groups = table.groups.max(place + 1);
 }
 
 // The members of a group that was shown: those of 0 to 2 are known by the variables' types.
-fn show_group(variables: u64, groups: u64, sets: &mut [u64], g: GroupNumber, ids: &[u8]) -> u64
-    requires { length sets.old ≡ 5 }
-    ensures { let before = groups_of (groups_by groups sets.old) in
-        Shown variables before g ids.now (groups_of (groups_by result sets.new)) }
+fn show_group(table: &mut LearnedTable, g: GroupNumber, ids: &[u8])
+    ensures { let x = held_table table.old in held_table table.new ≡ with_made x (shown_groups x g (map variable ids.now)) }
 {
-    let number = g.0;
-    if number < 3 {
-        return groups;
-    }
-    put_group(variables, groups, sets, (number - 3) as u64, ids)
-}
-
-// The made groups of so many in all: those past them are gone.
-fn fewer(groups: u64, told: usize) -> u64
-    requires { 3 ≤ told }
-    ensures { result ≡ min (told - 3) groups }
-{
-    let made = (told - 3) as u64;
-    if made < groups {
-        return made;
-    }
-    groups
-}
-
-fn with_groups(known: Known, groups: u64) -> Known
-    ensures { result ≡ known_groups known groups }
-{
-    Known {
-        variables: known.variables,
-        writable: known.writable,
-        groups,
-        curves: known.curves,
-        functions: known.functions,
+    if 3 <= g.0 {
+        put_group(table, (g.0 - 3) as u64, ids);
     }
 }
 
 // What an answer to a request teaches: `ids` are those of the new group that was asked for, `payload` is the answer's.
 #[tactic(auto, using(crate::proofs::Taught::nothing_learned), unfolding(asking::specs::Learning::taught, asking::specs::Learning::followed, asking::specs::Reply::tells, asking::specs::Reply::wanted, asking::specs::Request::fields_of))]
-fn learn(
-    known: Known,
-    sizes: &mut [u8; 64],
-    sets: &mut [u64; 5],
-    curves: &mut [u32; 24],
-    functions: &mut [u8; 32],
-    request: Request,
-    ids: &[u8],
-    payload: &[u8],
-) -> Known
+fn learn(table: &mut LearnedTable, request: Request, ids: &[u8], payload: &[u8])
     requires { Answers request payload.now }
-    ensures { let x = table_of known sizes.old sets.old curves.old functions.old in
-        table_of result sizes.new sets.new curves.new functions.new ≡ taught_by x request ids.now payload.now }
+    ensures { held_table table.new ≡ taught_by (held_table table.old) request ids.now payload.now }
 {
     match request {
         Request::ListVariables => {
-            take_sizes(payload, &mut sizes[..]);
-            Known {
-                variables: payload.len() as u64,
-                writable: marks_in(payload),
-                groups: 0,
-                curves: known.curves,
-                functions: known.functions,
-            }
+            take_sizes(payload, &mut table.sizes);
+            table.variables = payload.len() as u64;
+            table.writable = marks_in(payload);
+            table.groups = 0;
         }
-        Request::ListGroups => with_groups(known, fewer(known.groups, payload.len())),
-        Request::ShowGroup(g) => {
-            let groups = show_group(known.variables, known.groups, &mut sets[..], g, payload);
-            with_groups(known, groups)
-        }
+        Request::ListGroups => table.groups = (payload.len() as u64 - 3).min(table.groups),
+        Request::ShowGroup(g) => show_group(table, g, payload),
         Request::ListCurves => {
-            take_curves(payload, &mut curves[..]);
-            Known {
-                variables: known.variables,
-                writable: known.writable,
-                groups: known.groups,
-                curves: (payload.len() / 5) as u64,
-                functions: known.functions,
-            }
+            take_curves(payload, &mut table.shapes);
+            table.curves = (payload.len() / 5) as u64;
         }
         Request::ListFunctions => {
-            take_functions(payload, &mut functions[..]);
-            Known {
-                variables: known.variables,
-                writable: known.writable,
-                groups: known.groups,
-                curves: known.curves,
-                functions: payload.len() as u64,
-            }
+            take_functions(payload, &mut table.calls);
+            table.functions = payload.len() as u64;
         }
         Request::MakeGroup => {
-            let groups = put_group(
-                known.variables,
-                known.groups,
-                &mut sets[..],
-                known.groups,
-                ids,
-            );
-            with_groups(known, groups)
+            let next = table.groups;
+            put_group(table, next, ids);
         }
-        Request::RemoveGroups => with_groups(known, 0),
-        Request::Version => known,
-        Request::ReadSum(_) => known,
-        Request::ReadVariable(_) => known,
-        Request::ReadGroup(_) => known,
-        Request::WriteVariable(_) => known,
-        Request::WriteGroup(_) => known,
-        Request::MaskVariable(_, _) => known,
-        Request::MaskGroup(_, _) => known,
-        Request::WriteRead {
-            written: _,
-            read: _,
-        } => known,
-        Request::ReadBlock { curve: _, block: _ } => known,
-        Request::WriteBlock { curve: _, block: _ } => known,
-        Request::RenewSum(_) => known,
-        Request::RunFunction(_) => known,
+        Request::RemoveGroups => table.groups = 0,
+        Request::Version
+        | Request::ReadSum(_)
+        | Request::ReadVariable(_)
+        | Request::ReadGroup(_)
+        | Request::WriteVariable(_)
+        | Request::WriteGroup(_)
+        | Request::MaskVariable(_, _)
+        | Request::MaskGroup(_, _)
+        | Request::WriteRead { .. }
+        | Request::ReadBlock { .. }
+        | Request::WriteBlock { .. }
+        | Request::RenewSum(_)
+        | Request::RunFunction(_) => {}
     }
 }
 
 // A reply to a request that went to this destination, heard: what it says, and the table after it. `bytes` are those that went with the
 // request.
 pub fn hear(
-    known: Known,
-    sizes: &mut [u8; 64],
-    sets: &mut [u64; 5],
-    curves: &mut [u32; 24],
-    functions: &mut [u8; 32],
+    table: &mut LearnedTable,
     destination: u8,
     request: Request,
     bytes: &[u8],
     reply: &[u8],
-) -> Heard
-    ensures { let x = table_of known sizes.old sets.old curves.old functions.old in
-        let y = table_of result.known sizes.new sets.new curves.new functions.new in
-        heard_left result.told y ≡ heard_of x destination request bytes.now reply.now }
+) -> Result<Told, Refusal>
+    ensures { heard_left result (held_table table.new) ≡ heard_of (held_table table.old) destination request bytes.now reply.now }
 {
-    let told = replies::read(
-        known,
-        sizes,
-        sets,
-        curves,
-        functions,
-        destination,
-        request,
-        reply,
-    );
-    if !is_told(told) {
-        return Heard { told, known };
+    let told = replies::read(table, destination, request, reply)?;
+    if let Told::Error(_) = told {
+        return Ok(told);
     }
-    let end = reply.len() - 1;
-    let known = learn(
-        known,
-        sizes,
-        sets,
-        curves,
-        functions,
-        request,
-        bytes,
-        &reply[4..end],
-    );
-    Heard { told, known }
+    learn(table, request, bytes, &reply[4..reply.len() - 1]);
+    Ok(told)
 }

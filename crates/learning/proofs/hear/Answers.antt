@@ -1,24 +1,29 @@
 -- `hear` meets its contract. Assumes nothing.
-use native.Mathlib.Omega.{arith}
-use Rattle.learning.proofs.Hearing.{nothing_heard, reply_long, reply_room, answer_heard}
-use mathlib.Core.Path.{ap}
-use mathlib.Core.Bool.{not}
+use Rattle.std.proofs.Common.{arith}
+use Rattle.std.proofs.lemmas.Result.{err_from_is_err_and}
+use Rattle.learned.specs.Table.{held_table}
+use Rattle.learning.proofs.Hearing.{refusal_heard, error_heard, reply_long, reply_room, answer_heard}
 use Rattle.learning.proofs.hear.Goals as goal
 
-pub returns-then-not-is_told : goal.returns-then-not-is_told
-returns-then-not-is_told c = nothing_heard _ _ _ _ _ _ _ c.read-told.ensures c.is_told.ensures (ap not c.if-not-is_told.true)
+pub returns-in_err-told : goal.returns-in_err-told
+returns-in_err-told c =
+    let p = err_from_is_err_and c.from_residual.result c.from_residual.ensures.1 in
+    rw (p.1, p.2) (refusal_heard _ _ _ _ _ _ c.in_err-told.ensures)
 
-pub overflow_sub-end : goal.overflow_sub-end
-overflow_sub-end c = omega (arith, reply_long _ c.args.destination c.args.request c.args.bytes.now c.args.reply.now _ _ c.read-told.ensures c.is_told.ensures (ap not c.if-not-is_told.false))
+pub returns-in-Error : goal.returns-in-Error
+returns-in-Error c = error_heard _ _ _ _ _ _ _ c.in-Error.is c.in_ok-told.ensures
+
+pub overflow_sub-reply : goal.overflow_sub-reply
+overflow_sub-reply c = omega (arith, reply_long _ _ _ c.args.bytes.now _ _ c.in_ok-told.ensures c.in_default.not-Error)
 
 pub slice_bounds-learn-count : goal.slice_bounds-learn-count
-slice_bounds-learn-count c = omega (arith, reply_long _ c.args.destination c.args.request c.args.bytes.now c.args.reply.now _ _ c.read-told.ensures c.is_told.ensures (ap not c.if-not-is_told.false))
+slice_bounds-learn-count c = omega (arith, reply_long _ _ _ c.args.bytes.now _ _ c.in_ok-told.ensures c.in_default.not-Error)
 
 pub slice_bounds-learn-start : goal.slice_bounds-learn-start
-slice_bounds-learn-start c = omega (arith, reply_long _ c.args.destination c.args.request c.args.bytes.now c.args.reply.now _ _ c.read-told.ensures c.is_told.ensures (ap not c.if-not-is_told.false))
+slice_bounds-learn-start c = omega (arith, reply_long _ _ _ c.args.bytes.now _ _ c.in_ok-told.ensures c.in_default.not-Error)
 
-pub learn-known-requires : goal.learn-known-requires
-learn-known-requires c = reply_room _ _ _ c.args.bytes.now _ _ _ c.read-told.ensures c.is_told.ensures (ap not c.if-not-is_told.false)
+pub learn-requires : goal.learn-requires
+learn-requires c = reply_room _ _ _ c.args.bytes.now _ _ c.in_ok-told.ensures c.in_default.not-Error
 
 pub returns : goal.returns
-returns c = answer_heard _ _ _ _ _ _ _ c.read-told.ensures c.is_told.ensures (ap not c.if-not-is_told.false) _ c.learn-known.ensures
+returns c = answer_heard _ _ _ _ _ _ c.in_ok-told.ensures c.in_default.not-Error (held_table c.learn.new.table) c.learn.ensures
