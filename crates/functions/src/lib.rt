@@ -11,11 +11,7 @@ ghost use Rattle.records.specs.Lending.{functions_of};
 use bsmp::{Function, FunctionNumber, WireError};
 
 // 50
-#[tactic(auto, unfolding(
-    bsmp::specs::Message::check,
-    bsmp::specs::Message::line,
-    bsmp::specs::Base::first
-))]
+#[tactic(auto, unfolding(bsmp::specs::Message::check, bsmp::specs::Message::line, bsmp::specs::Base::first))]
 pub fn check_run(functions: &[u8], payload: &[u8]) -> Result<(), WireError>
     ensures { result ≡ check (functions_only (functions_of functions.now)) [] 0 payload.now RunFunction }
 {
