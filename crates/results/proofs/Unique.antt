@@ -1,5 +1,6 @@
 -- What a reader may lean on: each promise allows one result only, and a refused call leaves what it was lent as it was. Assumes nothing.
 use mathlib.Core.Path.{◌≡◌, refl, sym, ap, ◌∙◌}
+use Rattle.std.specs.Prelude as R
 use mathlib.Core.List.{List}
 use Prim.Native.Nat.{ℕ}
 use native.Mathlib.Omega.{arith}
@@ -13,9 +14,7 @@ use Rattle.bsmp.specs.declared.Outcome.{Outcome}
 use Rattle.bsmp.specs.declared.Outcome.TheVariants as O
 use Rattle.bsmp.proofs.Chain.{first_case}
 use Rattle.bsmp.proofs.Store.{join_cut}
-use Rattle.results.specs.Results.{ResultLeft, result_left, result_left_of, stored_of, StoreLeft, store_left, store_left_of, FreshLeft, fresh_left, fresh_left_of}
-use Rattle.results.specs.declared.Stored.{Stored}
-use Rattle.results.specs.declared.Stored.TheVariants.{Done, Refused}
+use Rattle.results.specs.Results.{ResultLeft, result_left, result_left_of, Stored, stored_of, StoreLeft, store_left, store_left_of, FreshLeft, fresh_left, fresh_left_of}
 
 -- x is what the definition gives, the right side of the promise
 pub result_unique : (x : ResultLeft) (o o' : Outcome) (b b' : List ℕ) → result_left o b ≡ x → result_left o' b' ≡ x → (o ≡ o') × (b ≡ b')
@@ -30,8 +29,8 @@ fresh_unique x a a' ls ls' ds ds' h k =
 
 -- the answer of a board store, and of a fresh board, tells its whole ending
 abbrev ending_of : Stored → Ending
-ending_of Done = silence
-ending_of (Refused n) = Ending.refused n
+ending_of (R.Ok tt) = silence
+ending_of (R.Err n) = Ending.refused n
 
 pub store_ends : (t : Table) (i : VariableNumber) (b : List ℕ) (s : State) → (board_store t i b s).ending ≡ ending_of (stored_of (board_store t i b s).ending)
 unfolding board_store
@@ -53,24 +52,24 @@ refused_reply silence n b b' h = ap (λ (y : ResultLeft). y.reply) h
 refused_reply (run f i due) n b b' h = ap (λ (y : ResultLeft). y.reply) h
 refused_reply (Ending.refused m) n b b' h = ap (λ (y : ResultLeft). y.reply) h
 
-done_no : (n : Refusal) → Refused n ≡ Done → ⊥
-done_no n h = let z : ◌≡◌ {A = ℕ} 0 1 = cc in omega arith
+done_no : (n : Refusal) → ◌≡◌ {A = Stored} (R.Err n) (R.Ok tt) → ⊥
+done_no n h = cc
 
 pub refused_values : (t : Table) (i : VariableNumber) (b : List ℕ) (x : Lent) (n : Refusal) (vs' : List ℕ)
-    → store_left (Refused n) vs' ≡ store_left_of (board_store t i b (held (layout t) x)) → vs' ≡ x.values
+    → store_left (R.Err n) vs' ≡ store_left_of (board_store t i b (held (layout t) x)) → vs' ≡ x.values
 unfolding board_store
 refused_values t i b x n vs' =
-    first_case (λ r. store_left (Refused n) vs' ≡ store_left_of r → vs' ≡ x.values) (faults t (held (layout t) x)) (refuse (held (layout t) x)) _ kept
-    (λ d. first_case (λ r. store_left (Refused n) vs' ≡ store_left_of r → vs' ≡ x.values) (store_tests (layout t) i b) (refuse (held (layout t) x)) _ kept
+    first_case (λ r. store_left (R.Err n) vs' ≡ store_left_of r → vs' ≡ x.values) (faults t (held (layout t) x)) (refuse (held (layout t) x)) _ kept
+    (λ d. first_case (λ r. store_left (R.Err n) vs' ≡ store_left_of r → vs' ≡ x.values) (store_tests (layout t) i b) (refuse (held (layout t) x)) _ kept
     (λ c h. absurd (done_no n (ap (λ (y : StoreLeft). y.stored) h))))
   where
-    kept : (m : Refusal) → store_left (Refused n) vs' ≡ store_left_of (refuse (held (layout t) x) m) → vs' ≡ x.values
+    kept : (m : Refusal) → store_left (R.Err n) vs' ≡ store_left_of (refuse (held (layout t) x) m) → vs' ≡ x.values
     kept m h = ap (λ (y : StoreLeft). y.values) h ∙ join_cut (sizes_of t.variables) x.values
 
-pub refused_fresh : (t : Table) (x : Lent) (n : Refusal) (ls' ds' : List ℕ) → fresh_left (Refused n) ls' ds' ≡ fresh_left_of (fresh_board t (held (layout t) x))
+pub refused_fresh : (t : Table) (x : Lent) (n : Refusal) (ls' ds' : List ℕ) → fresh_left (R.Err n) ls' ds' ≡ fresh_left_of (fresh_board t (held (layout t) x))
     → (ls' ≡ x.lengths) × (ds' ≡ x.sums)
 unfolding fresh_board fresh
 refused_fresh t x n ls' ds' =
-    first_case (λ r. fresh_left (Refused n) ls' ds' ≡ fresh_left_of r → (ls' ≡ x.lengths) × (ds' ≡ x.sums)) (faults t (full (layout t) (held (layout t) x))) (refuse (held (layout t) x)) _
+    first_case (λ r. fresh_left (R.Err n) ls' ds' ≡ fresh_left_of r → (ls' ≡ x.lengths) × (ds' ≡ x.sums)) (faults t (full (layout t) (held (layout t) x))) (refuse (held (layout t) x)) _
     (λ m h. (ap (λ (y : FreshLeft). y.lengths) h, ap (λ (y : FreshLeft). y.sums) h ∙ join_cut (sum_sizes t.curves) x.sums))
     (λ c h. absurd (done_no n (ap (λ (y : FreshLeft). y.stored) h)))

@@ -1,19 +1,18 @@
 -- What a function's result, a board store and a fresh board leave, of the code and of the definition. Assumes nothing.
 use Rattle.std.specs.Prelude.{List, [], ◌∷◌, ℕ}
+use Rattle.std.specs.Prelude as R
+use denote.Bor.{Bor}
 use Rattle.bsmp.specs.Base.{join}
 use Rattle.bsmp.specs.Packet.{Ending, reply, silence, run, Result, gave, failed}
 use Rattle.bsmp.specs.Packet as P
 use Rattle.bsmp.specs.Store.{outcome_of, shown}
 use Rattle.bsmp.specs.declared.Outcome.{Outcome}
-use Rattle.results.specs.declared.Ran.{Ran}
-use Rattle.results.specs.declared.Ran.TheVariants.{Gave, Failed}
-use Rattle.results.specs.declared.Stored.{Stored}
-use Rattle.results.specs.declared.Stored.TheVariants.{Done, Refused}
+use Rattle.bsmp.specs.declared.Refusal.{Refusal}
 
--- the output's bytes stand beside the enum; of a failed run none count
-abbrev pub ran_of : Ran → List ℕ → P.Ran
-ran_of Gave output = gave output
-ran_of (Failed e) output = failed e
+-- how a function ran, as the code has it: the output that it gave, or its error byte
+abbrev pub ran_of : R.Result (Bor (List ℕ)) ℕ → P.Ran
+ran_of (R.Ok output) = gave output.now
+ran_of (R.Err e) = failed e
 
 -- the payload of the reply
 abbrev pub ran_payload : P.Ran → List ℕ
@@ -31,13 +30,17 @@ result_left o b = record { outcome = o; reply = b }
 abbrev pub result_left_of : Ending → (buffer : List ℕ) → ResultLeft
 result_left_of e b = result_left (outcome_of e) (shown e b)
 
+-- the answer of a board store, and of a fresh board: good, or the refusal
+abbrev pub Stored : Type 0
+Stored = R.Result (Unit {0}) Refusal
+
 -- a board store and a fresh board end in silence or in a refusal; the other two endings don't occur (laws `store_ends`, `fresh_ends`) and
--- stand as Done
+-- stand as good
 abbrev pub stored_of : Ending → Stored
-stored_of (Ending.refused n) = Refused n
-stored_of silence = Done
-stored_of (reply r) = Done
-stored_of (run f i due) = Done
+stored_of (Ending.refused n) = R.Err n
+stored_of silence = R.Ok tt
+stored_of (reply r) = R.Ok tt
+stored_of (run f i due) = R.Ok tt
 
 -- a board store leaves its answer and the store of the values
 pub record StoreLeft : Type 0 where
