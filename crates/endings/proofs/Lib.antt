@@ -1,3 +1,2 @@
 -- Modules that belong to no one function. Assumes nothing.
-pub mod Says
 pub mod Back

@@ -1,15 +1,12 @@
 -- How an ending is said in plain numbers: 01's number of a refusal, 0 where nothing is refused. Assumes nothing.
-use Rattle.std.specs.Prelude.{Bool, true, false, ℕ, ℤ, pos}
+use Rattle.std.specs.Prelude.{Bool, true, false, List, ℕ, ℤ, pos, Result, Ok, Err}
 use Rattle.bsmp.specs.Codes.{refusal_number}
 use Rattle.bsmp.specs.Number.{Reading, is}
+use Rattle.bsmp.specs.Packet.{Ran, gave}
+use Rattle.bsmp.specs.Packet
+use Rattle.bsmp.specs.declared.Refusal.{Refusal}
 use Rattle.bsmp.specs.declared.Outcome.{Outcome}
 use Rattle.bsmp.specs.declared.Outcome.TheVariants as O
-use Rattle.results.specs.declared.Ran.{Ran}
-use Rattle.results.specs.declared.Ran.TheVariants.{Gave, Failed}
-use Rattle.results.specs.declared.Stored.{Stored}
-use Rattle.results.specs.declared.Stored.TheVariants as S
-use Rattle.readings.specs.declared.Writing.{Writing}
-use Rattle.readings.specs.declared.Writing.TheVariants as W
 use Rattle.endings.specs.declared.PlainOutcome.{PlainOutcome}
 use Rattle.endings.specs.declared.PlainSignedReading.{PlainSignedReading}
 use Rattle.endings.specs.declared.PlainUnsignedReading.{PlainUnsignedReading}
@@ -21,19 +18,15 @@ plain_outcome_of O.Silence = record { kind = 1; refusal = 0; due = false; functi
 plain_outcome_of (O.Run f n due) = record { kind = 2; refusal = 0; due = due; function = f.0; input = 5; length = n }
 plain_outcome_of (O.Refused r) = record { kind = 3; refusal = refusal_number r; due = false; function = 0; input = 0; length = 0 }
 
--- how a function ran: an error byte counts only where it failed
-abbrev pub ran_from : (failed : Bool) → (error : ℕ) → Ran
-ran_from true error = Failed error
-ran_from false error = Gave
+-- how a function ran: an error byte counts only where it failed, and the output only where it did not
+abbrev pub ran_from : (failed : Bool) → (error : ℕ) → (output : List ℕ) → Ran
+ran_from true error output = Packet.failed error
+ran_from false error output = gave output
 
 -- a board store, a fresh board and number to bytes: 0 or the refusal's number
-abbrev pub stored_number : Stored → ℕ
-stored_number S.Done = 0
-stored_number (S.Refused r) = refusal_number r
-
-abbrev pub writing_number : Writing → ℕ
-writing_number W.Done = 0
-writing_number (W.Refused r) = refusal_number r
+abbrev pub done_number : Result (Unit {0}) Refusal → ℕ
+done_number (Ok _) = 0
+done_number (Err r) = refusal_number r
 
 -- bytes to number: 0 and the number, or the refusal's number and 0
 pub record PlainReading : Type 0 where

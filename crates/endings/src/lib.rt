@@ -1,13 +1,12 @@
 // Endings in plain numbers, as an exported function can give them: a kind, 01's number of a refusal, and lengths.
 #![tactic(auto)]
 
-ghost use Rattle.std.specs.Prelude.{◌≡◌};
-ghost use Rattle.readings.specs.Answers.{signed_reading_of, unsigned_reading_of};
-ghost use Rattle.endings.specs.Numbers.{plain_outcome_of, ran_from, stored_number, writing_number, plain_reading_of, signed_says, unsigned_says};
+ghost use Rattle.std.specs.Prelude.{◌≡◌, pos};
+ghost use Rattle.readings.specs.Answers.{reading_of};
+ghost use Rattle.results.specs.Results.{ran_of};
+ghost use Rattle.endings.specs.Numbers.{ran_from, plain_outcome_of, done_number, plain_reading_of, signed_says, unsigned_says};
 
-use bsmp::Outcome;
-use readings::{SignedReading, UnsignedReading, Writing};
-use results::{Ran, Stored};
+use bsmp::{Outcome, Refusal};
 
 // How a call ends: kind 0 a reply of `length` bytes, 1 silence, 2 a function to be run with `length` bytes of input from place
 // `input` of the packet on, 3 a local refusal with 01's number. What a kind has no use for is 0.
@@ -45,101 +44,97 @@ impl PlainOutcome {
     pub const RUN: u8 = 2;
 
     pub const REFUSED: u8 = 3;
+
+    // nothing but a kind
+    const BLANK: PlainOutcome = PlainOutcome {
+        kind: PlainOutcome::SILENCE,
+        refusal: 0,
+        due: false,
+        function: 0,
+        input: 0,
+        length: 0,
+    };
 }
 
-pub fn outcome_of(outcome: Outcome) -> PlainOutcome
-    ensures { result ≡ plain_outcome_of outcome }
-{
-    match outcome {
-        Outcome::Reply(length) => PlainOutcome {
-            kind: PlainOutcome::REPLY,
-            refusal: 0,
-            due: false,
-            function: 0,
-            input: 0,
-            length,
-        },
-        Outcome::Silence => PlainOutcome {
-            kind: PlainOutcome::SILENCE,
-            refusal: 0,
-            due: false,
-            function: 0,
-            input: 0,
-            length: 0,
-        },
-        Outcome::Run {
-            function,
-            input,
-            due,
-        } => PlainOutcome {
-            kind: PlainOutcome::RUN,
-            refusal: 0,
-            due,
-            function: function.0,
-            input: 5,
-            length: input,
-        },
-        Outcome::Refused(refusal) => PlainOutcome {
-            kind: PlainOutcome::REFUSED,
-            refusal: refusal.number(),
-            due: false,
-            function: 0,
-            input: 0,
-            length: 0,
-        },
+impl From<Outcome> for PlainOutcome {
+    ghost from_gives = { λ outcome plain. plain ≡ plain_outcome_of outcome };
+
+    fn from(outcome: Outcome) -> PlainOutcome {
+        match outcome {
+            Outcome::Reply(length) => PlainOutcome {
+                kind: PlainOutcome::REPLY,
+                length,
+                ..PlainOutcome::BLANK
+            },
+            Outcome::Silence => PlainOutcome {
+                kind: PlainOutcome::SILENCE,
+                ..PlainOutcome::BLANK
+            },
+            Outcome::Run {
+                function,
+                input,
+                due,
+            } => PlainOutcome {
+                kind: PlainOutcome::RUN,
+                due,
+                function: function.0,
+                input: 5,
+                length: input,
+                ..PlainOutcome::BLANK
+            },
+            Outcome::Refused(refusal) => PlainOutcome {
+                kind: PlainOutcome::REFUSED,
+                refusal: u8::from(refusal),
+                ..PlainOutcome::BLANK
+            },
+        }
     }
 }
 
-// A board store and a fresh board: 0, or the refusal.
-pub fn stored_number(stored: Stored) -> u8
-    ensures { result ≡ stored_number stored }
+// A board store, a fresh board and number to bytes: 0, or the refusal.
+pub fn done_number(done: Result<(), Refusal>) -> u8
+    ensures { result ≡ done_number done }
 {
-    match stored {
-        Stored::Done => 0,
-        Stored::Refused(refusal) => refusal.number(),
+    match done {
+        Ok(()) => 0,
+        Err(refusal) => u8::from(refusal),
     }
 }
 
-// Number to bytes.
-pub fn writing_number(writing: Writing) -> u8
-    ensures { result ≡ writing_number writing }
-{
-    match writing {
-        Writing::Done => 0,
-        Writing::Refused(refusal) => refusal.number(),
+impl From<Result<i64, Refusal>> for PlainSignedReading {
+    ghost from_gives = { λ reading plain. signed_says plain ≡ plain_reading_of (reading_of (λ z. z) reading) };
+
+    fn from(reading: Result<i64, Refusal>) -> PlainSignedReading {
+        match reading {
+            Ok(number) => PlainSignedReading { refusal: 0, number },
+            Err(refusal) => PlainSignedReading {
+                refusal: u8::from(refusal) as u64,
+                number: 0,
+            },
+        }
     }
 }
 
-pub fn signed_of(reading: SignedReading) -> PlainSignedReading
-    ensures { signed_says result ≡ plain_reading_of (signed_reading_of reading) }
-{
-    match reading {
-        SignedReading::Is(number) => PlainSignedReading { refusal: 0, number },
-        SignedReading::Refused(refusal) => PlainSignedReading {
-            refusal: refusal.number() as u64,
-            number: 0,
-        },
-    }
-}
+impl From<Result<u64, Refusal>> for PlainUnsignedReading {
+    ghost from_gives = { λ reading plain. unsigned_says plain ≡ plain_reading_of (reading_of (λ u. pos u) reading) };
 
-pub fn unsigned_of(reading: UnsignedReading) -> PlainUnsignedReading
-    ensures { unsigned_says result ≡ plain_reading_of (unsigned_reading_of reading) }
-{
-    match reading {
-        UnsignedReading::Is(number) => PlainUnsignedReading { refusal: 0, number },
-        UnsignedReading::Refused(refusal) => PlainUnsignedReading {
-            refusal: refusal.number() as u64,
-            number: 0,
-        },
+    fn from(reading: Result<u64, Refusal>) -> PlainUnsignedReading {
+        match reading {
+            Ok(number) => PlainUnsignedReading { refusal: 0, number },
+            Err(refusal) => PlainUnsignedReading {
+                refusal: u8::from(refusal) as u64,
+                number: 0,
+            },
+        }
     }
 }
 
 // How a function ran: an error byte counts only where it failed.
-pub fn ran_of(failed: bool, error: u8) -> Ran
-    ensures { result ≡ ran_from failed error }
+pub fn ran_of(failed: bool, error: u8, output: &[u8]) -> Result<&[u8], u8>
+    ensures { ran_of result ≡ ran_from failed error output.now }
 {
     if failed {
-        return Ran::Failed(error);
+        return Err(error);
     }
-    Ran::Gave
+    Ok(output)
 }

@@ -7,10 +7,10 @@ use Rattle.bsmp.specs.declared.Variable.{Variable}
 use Rattle.records.specs.declared.Groups.{Groups}
 use Rattle.wire.specs.Opening.{placed}
 use Rattle.node.specs.Promise.{PacketLeft, packet_left_of}
-use Rattle.results.specs.Results.{ran_of, ResultLeft, result_left_of, StoreLeft, store_left_of, FreshLeft, fresh_left_of}
+use Rattle.results.specs.Results.{ResultLeft, result_left_of, StoreLeft, store_left_of, FreshLeft, fresh_left_of}
 use Rattle.readings.specs.Answers.{WritingLeft, writing_left_of}
 use Rattle.plain.specs.Lending.{Lending, table_in, held_in}
-use Rattle.endings.specs.Numbers.{plain_outcome_of, ran_from, stored_number, writing_number, PlainReading, plain_reading_of}
+use Rattle.endings.specs.Numbers.{plain_outcome_of, ran_from, done_number, PlainReading, plain_reading_of}
 use Rattle.endings.specs.declared.PlainOutcome.{PlainOutcome}
 
 -- a packet leaves its outcome, and all that was lent to be changed
@@ -46,7 +46,7 @@ plain_result_left_of x = plain_result_left (plain_outcome_of x.outcome) x.reply
 
 abbrev pub result_of : Lending → ℕ → (due failed : Bool) → (error : ℕ) → (output reply : List ℕ) → PlainResultLeft
 result_of x f due failed error output reply =
-    plain_result_left_of (result_left_of (function_result (table_in x) (length reply) (function f) due (ran_of (ran_from failed error) output) (held_in x)).ending reply)
+    plain_result_left_of (result_left_of (function_result (table_in x) (length reply) (function f) due (ran_from failed error output) (held_in x)).ending reply)
 
 -- a board store and number to bytes leave 0 or the refusal's number, and the bytes that were lent to be written
 pub record PlainBytesLeft : Type 0 where
@@ -57,7 +57,7 @@ abbrev pub plain_bytes_left : ℕ → List ℕ → PlainBytesLeft
 plain_bytes_left n bs = record { number = n; bytes = bs }
 
 abbrev pub plain_store_left_of : StoreLeft → PlainBytesLeft
-plain_store_left_of x = plain_bytes_left (stored_number x.stored) x.values
+plain_store_left_of x = plain_bytes_left (done_number x.stored) x.values
 
 abbrev pub store_of : Lending → ℕ → (bytes : List ℕ) → PlainBytesLeft
 store_of x i bytes = plain_store_left_of (store_left_of (board_store (table_in x) (variable i) bytes (held_in x)))
@@ -72,13 +72,13 @@ abbrev pub plain_fresh_left : ℕ → (lengths sums : List ℕ) → PlainFreshLe
 plain_fresh_left n ls ds = record { number = n; lengths = ls; sums = ds }
 
 abbrev pub plain_fresh_left_of : FreshLeft → PlainFreshLeft
-plain_fresh_left_of x = plain_fresh_left (stored_number x.stored) x.lengths x.sums
+plain_fresh_left_of x = plain_fresh_left (done_number x.stored) x.lengths x.sums
 
 abbrev pub fresh_of : Lending → PlainFreshLeft
 fresh_of x = plain_fresh_left_of (fresh_left_of (fresh_board (table_in x) (held_in x)))
 
 abbrev pub plain_writing_left_of : WritingLeft → PlainBytesLeft
-plain_writing_left_of x = plain_bytes_left (writing_number x.answer) x.buffer
+plain_writing_left_of x = plain_bytes_left (done_number x.answer) x.buffer
 
 abbrev pub writing_of : List Variable → ℕ → (signed : Bool) → ℤ → (buffer : List ℕ) → PlainBytesLeft
 writing_of vs i signed z buffer = plain_writing_left_of (writing_left_of (writing vs (variable i) signed z (length buffer)) buffer)

@@ -3,7 +3,8 @@ use Rattle.std.specs.Prelude.{List, ℕ}
 use Rattle.bsmp.specs.Board.{Table, layout, State}
 use Rattle.bsmp.specs.Store.{Lent, held}
 use Rattle.bsmp.specs.declared.Variable.{Variable}
-use Rattle.records.specs.Lending.{curves_of, functions_of, groups_of, lent}
+use Rattle.records.specs.Lending.{records_of, curves_of, functions_of, groups_of, lent}
+use Rattle.records.specs.declared.Board.{Board}
 use Rattle.records.specs.declared.Groups.{Groups}
 
 -- the variable records themselves, however many; curves and functions as flat numbers; the group table, both stores, the lengths and the sums
@@ -20,6 +21,10 @@ pub record Lending : Type 0 where
 abbrev pub lending : List Variable → (curves functions : List ℕ) → Groups → (values blocks lengths sums : List ℕ) → Lending
 lending vs cs fs g values blocks lengths sums =
     record { variables = vs; curves = cs; functions = fs; groups = g; values = values; blocks = blocks; lengths = lengths; sums = sums }
+
+-- .. of a whole board
+abbrev pub lending_of : Board → Lending
+lending_of b = lending (records_of b.records.now) b.curves.now b.functions.now b.groups.now b.values.now b.blocks.now b.lengths.now b.sums.now
 
 abbrev pub table_in : Lending → Table
 table_in x = record { variables = x.variables; curves = curves_of x.curves; functions = functions_of x.functions }

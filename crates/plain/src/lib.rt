@@ -2,15 +2,17 @@
 // by them.
 #![tactic(auto)]
 
-ghost use Rattle.std.specs.Prelude.{◌≡◌, true, false, pos};
+ghost use Rattle.std.specs.Prelude.{◌≡◌, true, false};
 ghost use Rattle.rfc1321.specs.Md5.{digest};
-ghost use Rattle.records.specs.Lending.{records_by, records_of, groups_by};
+ghost use Rattle.records.specs.Lending.{records_of};
 ghost use Rattle.endings.specs.Numbers.{signed_says, unsigned_says};
-ghost use Rattle.plain.specs.Lending.{lending};
+ghost use Rattle.plain.specs.Lending.{lending, lending_of};
 ghost use Rattle.plain.specs.Calls.{plain_packet_left, packet_of, plain_result_left, result_of, plain_bytes_left, store_of, plain_fresh_left, fresh_of, writing_of, reading_of};
 
 use bsmp::{FunctionNumber, VariableNumber};
 use endings::{PlainOutcome, PlainSignedReading, PlainUnsignedReading};
+use numbers::Number;
+use records::{Board, Groups, Records};
 
 // A sum of 16 bytes.
 #[repr(C)]
@@ -19,22 +21,11 @@ pub struct PlainSum {
     pub bytes: [u8; 16],
 }
 
-// What a packet comes to: how it ends, and how many groups are made then.
-#[derive(Clone, Copy)]
-pub struct PlainDone {
-    pub outcome: PlainOutcome,
-    pub count: u64,
-}
-
 pub fn packet(
-    count: usize,
-    writable: &[u8; 64],
-    sizes: &[u8; 64],
-    kinds: &[u8; 64],
+    records: &Records,
     curves: &[u32],
     functions: &[u8],
-    made: u64,
-    sets: &mut [u64; 5],
+    groups: &mut Groups,
     own: u8,
     multicast: u8,
     busy: u64,
@@ -44,38 +35,20 @@ pub fn packet(
     sums: &mut [u8],
     request: &[u8],
     reply: &mut [u8],
-) -> PlainDone
-    ensures { let records = records_by count writable.now sizes.now kinds.now in
-        let groups = groups_by made sets.old in
-        let board = lending (records_of records) curves.now functions.now groups values.old blocks.old lengths.old sums.old in
-        plain_packet_left result.outcome (groups_by result.count sets.new) reply.new values.new blocks.new lengths.new sums.new
+) -> PlainOutcome
+    ensures { let board = lending (records_of records.now) curves.now functions.now groups.old values.old blocks.old lengths.old sums.old in
+        plain_packet_left result groups.new reply.new values.new blocks.new lengths.new sums.new
         ≡ packet_of board own multicast busy request.now reply.old }
 {
-    let done = node::packet(
-        count, writable, sizes, kinds, curves, functions, made, sets, own, multicast, busy, values,
-        blocks, lengths, sums, request, reply,
+    let outcome = node::packet(
+        records, curves, functions, groups, own, multicast, busy, values, blocks, lengths, sums,
+        request, reply,
     );
-    let ending = done.outcome;
-    let outcome = endings::outcome_of(ending);
-    PlainDone {
-        outcome,
-        count: done.count,
-    }
+    PlainOutcome::from(outcome)
 }
 
 pub fn function_result(
-    count: usize,
-    writable: &[u8; 64],
-    sizes: &[u8; 64],
-    kinds: &[u8; 64],
-    curves: &[u32],
-    functions: &[u8],
-    made: u64,
-    sets: &[u64; 5],
-    values: &[u8],
-    blocks: &[u8],
-    lengths: &[u16],
-    sums: &[u8],
+    board: &Board,
     function: usize,
     due: bool,
     failed: bool,
@@ -83,43 +56,18 @@ pub fn function_result(
     output: &[u8],
     reply: &mut [u8],
 ) -> PlainOutcome
-    ensures { let records = records_by count writable.now sizes.now kinds.now in
-        let groups = groups_by made sets.now in
-        let board = lending (records_of records) curves.now functions.now groups values.now blocks.now lengths.now sums.now in
-        plain_result_left result reply.new ≡ result_of board function due failed error output.now reply.old }
+    ensures { plain_result_left result reply.new ≡ result_of (lending_of board.now) function due failed error output.now reply.old }
 {
-    let ran = endings::ran_of(failed, error);
-    let outcome = results::function_result(
-        count,
-        writable,
-        sizes,
-        kinds,
-        curves,
-        functions,
-        made,
-        sets,
-        values,
-        blocks,
-        lengths,
-        sums,
-        FunctionNumber(function),
-        due,
-        ran,
-        output,
-        reply,
-    );
-    endings::outcome_of(outcome)
+    let ran = endings::ran_of(failed, error, output);
+    let outcome = results::function_result(board, FunctionNumber(function), due, ran, reply);
+    PlainOutcome::from(outcome)
 }
 
 pub fn board_store(
-    count: usize,
-    writable: &[u8; 64],
-    sizes: &[u8; 64],
-    kinds: &[u8; 64],
+    records: &Records,
     curves: &[u32],
     functions: &[u8],
-    made: u64,
-    sets: &[u64; 5],
+    groups: &Groups,
     values: &mut [u8],
     blocks: &[u8],
     lengths: &[u16],
@@ -127,141 +75,58 @@ pub fn board_store(
     variable: usize,
     bytes: &[u8],
 ) -> u8
-    ensures { let records = records_by count writable.now sizes.now kinds.now in
-        let groups = groups_by made sets.now in
-        let board = lending (records_of records) curves.now functions.now groups values.old blocks.now lengths.now sums.now in
+    ensures { let board = lending (records_of records.now) curves.now functions.now groups.now values.old blocks.now lengths.now sums.now in
         plain_bytes_left result values.new ≡ store_of board variable bytes.now }
 {
-    let stored = results::board_store(
-        count,
-        writable,
-        sizes,
-        kinds,
+    endings::done_number(results::board_store(
+        records,
         curves,
         functions,
-        made,
-        sets,
+        groups,
         values,
         blocks,
         lengths,
         sums,
         VariableNumber(variable),
         bytes,
-    );
-    endings::stored_number(stored)
+    ))
 }
 
 pub fn fresh_board(
-    count: usize,
-    writable: &[u8; 64],
-    sizes: &[u8; 64],
-    kinds: &[u8; 64],
+    records: &Records,
     curves: &[u32],
     functions: &[u8],
-    made: u64,
-    sets: &[u64; 5],
+    groups: &Groups,
     values: &[u8],
     blocks: &[u8],
     lengths: &mut [u16],
     sums: &mut [u8],
 ) -> u8
-    ensures { let records = records_by count writable.now sizes.now kinds.now in
-        let groups = groups_by made sets.now in
-        let board = lending (records_of records) curves.now functions.now groups values.now blocks.now lengths.old sums.old in
+    ensures { let board = lending (records_of records.now) curves.now functions.now groups.now values.now blocks.now lengths.old sums.old in
         plain_fresh_left result lengths.new sums.new ≡ fresh_of board }
 {
-    let stored = results::fresh_board(
-        count, writable, sizes, kinds, curves, functions, made, sets, values, blocks, lengths, sums,
-    );
-    endings::stored_number(stored)
-}
-
-pub fn read_signed(
-    count: usize,
-    writable: &[u8; 64],
-    sizes: &[u8; 64],
-    kinds: &[u8; 64],
-    variable: usize,
-    bytes: &[u8],
-) -> PlainSignedReading
-    ensures { let records = records_by count writable.now sizes.now kinds.now in
-        signed_says result ≡ reading_of (records_of records) variable true bytes.now }
-{
-    endings::signed_of(readings::read_signed(
-        count,
-        writable,
-        sizes,
-        kinds,
-        VariableNumber(variable),
-        bytes,
+    endings::done_number(results::fresh_board(
+        records, curves, functions, groups, values, blocks, lengths, sums,
     ))
 }
 
-pub fn read_unsigned(
-    count: usize,
-    writable: &[u8; 64],
-    sizes: &[u8; 64],
-    kinds: &[u8; 64],
-    variable: usize,
-    bytes: &[u8],
-) -> PlainUnsignedReading
-    ensures { let records = records_by count writable.now sizes.now kinds.now in
-        unsigned_says result ≡ reading_of (records_of records) variable false bytes.now }
+// Two readings, signed and unsigned, since C's struct of each has a name and a type of its own.
+pub fn read_signed(records: &Records, variable: usize, bytes: &[u8]) -> PlainSignedReading
+    ensures { signed_says result ≡ reading_of (records_of records.now) variable true bytes.now }
 {
-    endings::unsigned_of(readings::read_unsigned(
-        count,
-        writable,
-        sizes,
-        kinds,
-        VariableNumber(variable),
-        bytes,
-    ))
+    PlainSignedReading::from(readings::read(records, VariableNumber(variable), bytes))
 }
 
-pub fn write_signed(
-    count: usize,
-    writable: &[u8; 64],
-    sizes: &[u8; 64],
-    kinds: &[u8; 64],
-    variable: usize,
-    number: i64,
-    buffer: &mut [u8],
-) -> u8
-    ensures { let records = records_by count writable.now sizes.now kinds.now in
-        plain_bytes_left result buffer.new ≡ writing_of (records_of records) variable true number buffer.old }
+pub fn read_unsigned(records: &Records, variable: usize, bytes: &[u8]) -> PlainUnsignedReading
+    ensures { unsigned_says result ≡ reading_of (records_of records.now) variable false bytes.now }
 {
-    endings::writing_number(readings::write_signed(
-        count,
-        writable,
-        sizes,
-        kinds,
-        VariableNumber(variable),
-        number,
-        buffer,
-    ))
+    PlainUnsignedReading::from(readings::read(records, VariableNumber(variable), bytes))
 }
 
-pub fn write_unsigned(
-    count: usize,
-    writable: &[u8; 64],
-    sizes: &[u8; 64],
-    kinds: &[u8; 64],
-    variable: usize,
-    number: u64,
-    buffer: &mut [u8],
-) -> u8
-    ensures { let records = records_by count writable.now sizes.now kinds.now in
-        plain_bytes_left result buffer.new ≡ writing_of (records_of records) variable false (pos number) buffer.old }
+pub fn write<N: Number>(records: &Records, variable: usize, number: N, buffer: &mut [u8]) -> u8
+    ensures { plain_bytes_left result buffer.new ≡ writing_of (records_of records.now) variable N.SIGNED (N.meaning number) buffer.old }
 {
-    endings::writing_number(readings::write_unsigned(
-        count,
-        writable,
-        sizes,
-        kinds,
-        VariableNumber(variable),
-        number,
-        buffer,
-    ))
+    endings::done_number(readings::write(records, VariableNumber(variable), number, buffer))
 }
 
 // The MD5 of a message, for who has no curve: a download can be summed before it is sent.

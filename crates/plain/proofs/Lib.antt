@@ -1,2 +1,0 @@
--- Modules that belong to no one function. Assumes nothing.
-pub mod Plain
