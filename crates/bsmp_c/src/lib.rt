@@ -10,7 +10,7 @@ ghost use Rattle.plain.specs.Calls.{plain_packet_left, packet_of, plain_result_l
 use bsmp::Variable;
 use endings::{PlainOutcome, PlainSignedReading, PlainUnsignedReading};
 use plain::PlainSum;
-use records::Groups;
+use records::{Board, Groups};
 
 #[unsafe(no_mangle)]
 pub extern "C" fn bsmp_packet(
@@ -33,32 +33,11 @@ pub extern "C" fn bsmp_packet(
         plain_packet_left result groups.new reply.new values.new blocks.new lengths.new sums.new
         ≡ packet_of board own multicast busy request.now reply.old }
 {
-    let mut writable = [0u8; 64];
-    let mut sizes = [0u8; 64];
-    let mut kinds = [0u8; 64];
-    let count = columns::take(variables, &mut writable, &mut sizes, &mut kinds);
-    let made = groups.count;
-    let done = plain::packet(
-        count,
-        &writable,
-        &sizes,
-        &kinds,
-        curves,
-        functions,
-        made,
-        &mut groups.sets,
-        own,
-        multicast,
-        busy,
-        values,
-        blocks,
-        lengths,
-        sums,
-        request,
-        reply,
-    );
-    groups.count = done.count;
-    done.outcome
+    let records = columns::taken(variables);
+    plain::packet(
+        &records, curves, functions, groups, own, multicast, busy, values, blocks, lengths, sums,
+        request, reply,
+    )
 }
 
 #[unsafe(no_mangle)]
@@ -82,31 +61,18 @@ pub extern "C" fn bsmp_function_result(
         groups.now values.now blocks.now lengths.now sums.now in
         plain_result_left result reply.new ≡ result_of board function due failed error output.now reply.old }
 {
-    let mut writable = [0u8; 64];
-    let mut sizes = [0u8; 64];
-    let mut kinds = [0u8; 64];
-    let count = columns::take(variables, &mut writable, &mut sizes, &mut kinds);
-    let made = groups.count;
-    plain::function_result(
-        count,
-        &writable,
-        &sizes,
-        &kinds,
+    let records = columns::taken(variables);
+    let board = Board {
+        records: &records,
         curves,
         functions,
-        made,
-        &groups.sets,
+        groups,
         values,
         blocks,
         lengths,
         sums,
-        function,
-        due,
-        failed,
-        error,
-        output,
-        reply,
-    )
+    };
+    plain::function_result(&board, function, due, failed, error, output, reply)
 }
 
 #[unsafe(no_mangle)]
@@ -126,26 +92,9 @@ pub extern "C" fn bsmp_board_store(
         groups.now values.old blocks.now lengths.now sums.now in
         plain_bytes_left result values.new ≡ store_of board variable bytes.now }
 {
-    let mut writable = [0u8; 64];
-    let mut sizes = [0u8; 64];
-    let mut kinds = [0u8; 64];
-    let count = columns::take(variables, &mut writable, &mut sizes, &mut kinds);
-    let made = groups.count;
+    let records = columns::taken(variables);
     plain::board_store(
-        count,
-        &writable,
-        &sizes,
-        &kinds,
-        curves,
-        functions,
-        made,
-        &groups.sets,
-        values,
-        blocks,
-        lengths,
-        sums,
-        variable,
-        bytes,
+        &records, curves, functions, groups, values, blocks, lengths, sums, variable, bytes,
     )
 }
 
@@ -164,24 +113,9 @@ pub extern "C" fn bsmp_fresh_board(
         groups.now values.now blocks.now lengths.old sums.old in
         plain_fresh_left result lengths.new sums.new ≡ fresh_of board }
 {
-    let mut writable = [0u8; 64];
-    let mut sizes = [0u8; 64];
-    let mut kinds = [0u8; 64];
-    let count = columns::take(variables, &mut writable, &mut sizes, &mut kinds);
-    let made = groups.count;
+    let records = columns::taken(variables);
     plain::fresh_board(
-        count,
-        &writable,
-        &sizes,
-        &kinds,
-        curves,
-        functions,
-        made,
-        &groups.sets,
-        values,
-        blocks,
-        lengths,
-        sums,
+        &records, curves, functions, groups, values, blocks, lengths, sums,
     )
 }
 
@@ -193,11 +127,7 @@ pub extern "C" fn bsmp_read_signed(
 ) -> PlainSignedReading
     ensures { signed_says result ≡ reading_of variables.now variable true bytes.now }
 {
-    let mut writable = [0u8; 64];
-    let mut sizes = [0u8; 64];
-    let mut kinds = [0u8; 64];
-    let count = columns::take(variables, &mut writable, &mut sizes, &mut kinds);
-    plain::read_signed(count, &writable, &sizes, &kinds, variable, bytes)
+    plain::read_signed(&columns::taken(variables), variable, bytes)
 }
 
 #[unsafe(no_mangle)]
@@ -208,11 +138,7 @@ pub extern "C" fn bsmp_read_unsigned(
 ) -> PlainUnsignedReading
     ensures { unsigned_says result ≡ reading_of variables.now variable false bytes.now }
 {
-    let mut writable = [0u8; 64];
-    let mut sizes = [0u8; 64];
-    let mut kinds = [0u8; 64];
-    let count = columns::take(variables, &mut writable, &mut sizes, &mut kinds);
-    plain::read_unsigned(count, &writable, &sizes, &kinds, variable, bytes)
+    plain::read_unsigned(&columns::taken(variables), variable, bytes)
 }
 
 #[unsafe(no_mangle)]
@@ -224,11 +150,7 @@ pub extern "C" fn bsmp_write_signed(
 ) -> u8
     ensures { plain_bytes_left result buffer.new ≡ writing_of variables.now variable true number buffer.old }
 {
-    let mut writable = [0u8; 64];
-    let mut sizes = [0u8; 64];
-    let mut kinds = [0u8; 64];
-    let count = columns::take(variables, &mut writable, &mut sizes, &mut kinds);
-    plain::write_signed(count, &writable, &sizes, &kinds, variable, number, buffer)
+    plain::write(&columns::taken(variables), variable, number, buffer)
 }
 
 #[unsafe(no_mangle)]
@@ -240,11 +162,7 @@ pub extern "C" fn bsmp_write_unsigned(
 ) -> u8
     ensures { plain_bytes_left result buffer.new ≡ writing_of variables.now variable false (pos number) buffer.old }
 {
-    let mut writable = [0u8; 64];
-    let mut sizes = [0u8; 64];
-    let mut kinds = [0u8; 64];
-    let count = columns::take(variables, &mut writable, &mut sizes, &mut kinds);
-    plain::write_unsigned(count, &writable, &sizes, &kinds, variable, number, buffer)
+    plain::write(&columns::taken(variables), variable, number, buffer)
 }
 
 #[unsafe(no_mangle)]
