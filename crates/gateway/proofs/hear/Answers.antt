@@ -1,10 +1,9 @@
 -- `hear` meets its contract. Assumes nothing.
-use Rattle.gateway.proofs.Plain.{hear_named, hear_unnamed}
-use borrow.Author.Rules.{rules}
+use Rattle.std.proofs.Common.{ap}
+use Rattle.learning.specs.Taking.{HeardLeft, heard_of}
+use Rattle.gateway.specs.Plain.{plain_heard_of, plain_heard_left}
 use Rattle.gateway.proofs.hear.Goals as goal
 
-pub returns-in-Is : goal.returns-in-Is
-returns-in-Is c = search (hear_named, rules)
-
-pub returns-in-Nothing : goal.returns-in-Nothing
-returns-in-Nothing c = search (hear_unnamed, rules)
+pub returns-in-Some : goal.returns-in-Some
+unfolding heard_of
+returns-in-Some c = rw (c.in-Some.is, c.from.ensures) (ap (λ (y : HeardLeft). plain_heard_left (plain_heard_of y.told) y.table) c.hear.ensures)
