@@ -34,9 +34,9 @@ use Rattle.records.proofs.Lending.{groups_lent}
 use Rattle.records.proofs.Sound.{usable_sound, groups_most}
 use Rattle.wire.specs.Opening.{placed}
 use Rattle.node.specs.Promise.{table_with}
-use Rattle.results.specs.Results.{ran_of, stored_of}
+use Rattle.results.specs.Results.{stored_of}
 use Rattle.plain.specs.Lending.{Lending, lending, table_in, lent_in, held_in}
-use Rattle.endings.specs.Numbers.{plain_outcome_of, ran_from, stored_number}
+use Rattle.endings.specs.Numbers.{plain_outcome_of, ran_from, done_number}
 use Rattle.plain.specs.Calls.{PlainPacketLeft, packet_of, PlainResultLeft, result_of, PlainBytesLeft, store_of, PlainFreshLeft, fresh_of}
 use Rattle.endings.proofs.Back.{refusal_some}
 use Rattle.bsmp_c.specs.Runs.{Turn, packet_turn, result_turn, store_turn, fresh_turn, Promised, left_in, Runs, last_in, call_of, calls_in}
@@ -91,8 +91,8 @@ module _ (own multicast : ℕ) (x : Lending) (u : usable (table_in x) (held_in x
   result_gives : (f : ℕ) (due failed : Bool) (error : ℕ) (out b : List ℕ) (z : PlainResultLeft) → z ≡ result_of x f due failed error out b
       → Gives a x (result_turn f due failed error out b z)
   result_gives f due failed error out b z h =
-      let y : Left = left_by t a (result_in (function f) due (ran_of (ran_from failed error) out) b) (lent_in x) in
-      let k : y.holds ≡ held_in x = result_keeps t (length b) (function f) due (ran_of (ran_from failed error) out) (held_in x) in
+      let y : Left = left_by t a (result_in (function f) due (ran_from failed error out) b) (lent_in x) in
+      let k : y.holds ≡ held_in x = result_keeps t (length b) (function f) due (ran_from failed error out) (held_in x) in
       record {
         sees_it = (λ i. plain_seen (h i).outcome (h i).reply) ∙ seen_plain y.outcome y.buffer;
         leaves_it = sym (ap lent_of k ∙ lent_held (layout t) (lent_in x));
@@ -100,10 +100,10 @@ module _ (own multicast : ℕ) (x : Lending) (u : usable (table_in x) (held_in x
 
   -- `bsmp_board_store`: all but the values stays
   store_seen : (i : VariableNumber) (b : List ℕ) (s : State)
-      → number_seen (stored_number (stored_of (board_store t i b s).ending)) ≡ plain_seen_of (seen_of (leaves (board_store t i b s) []))
+      → number_seen (done_number (stored_of (board_store t i b s).ending)) ≡ plain_seen_of (seen_of (leaves (board_store t i b s) []))
   unfolding board_store
   store_seen i b s =
-      let Said : Result → Type 0 = λ y. number_seen (stored_number (stored_of y.ending)) ≡ plain_seen_of (seen_of (leaves y [])) in
+      let Said : Result → Type 0 = λ y. number_seen (done_number (stored_of y.ending)) ≡ plain_seen_of (seen_of (leaves y [])) in
       first_case Said (faults t s) (refuse s) _ number_refused (λ d. first_case Said (store_tests (layout t) i b) (refuse s) _ number_refused (λ c. refl))
 
   store_gives : (i : ℕ) (b : List ℕ) (z : PlainBytesLeft) → z ≡ store_of x i b → Gives a x (store_turn i b z)
@@ -116,10 +116,10 @@ module _ (own multicast : ℕ) (x : Lending) (u : usable (table_in x) (held_in x
       }
 
   -- `bsmp_fresh_board`: all but the lengths and the sums stays
-  fresh_seen : (s : State) → number_seen (stored_number (stored_of (fresh_board t s).ending)) ≡ plain_seen_of (seen_of (leaves (fresh_board t s) []))
+  fresh_seen : (s : State) → number_seen (done_number (stored_of (fresh_board t s).ending)) ≡ plain_seen_of (seen_of (leaves (fresh_board t s) []))
   unfolding fresh_board
   fresh_seen s =
-      first_case (λ y. number_seen (stored_number (stored_of y.ending)) ≡ plain_seen_of (seen_of (leaves y []))) (faults t (full (layout t) s)) (refuse s) _ number_refused (λ c. refl)
+      first_case (λ y. number_seen (done_number (stored_of y.ending)) ≡ plain_seen_of (seen_of (leaves y []))) (faults t (full (layout t) s)) (refuse s) _ number_refused (λ c. refl)
 
   fresh_gives : (z : PlainFreshLeft) → z ≡ fresh_of x → Gives a x (fresh_turn z)
   fresh_gives z h =

@@ -1,4 +1,5 @@
 -- What a call comes to by the records that the columns say is what it comes to by the lent ones, however many. Assumes nothing.
+use Rattle.std.specs.Prelude.{Err}
 use mathlib.Core.Path.{◌≡◌, refl, sym, ap, ◌∙◌}
 use mathlib.Core.Bool.{Bool, true, false, not}
 use mathlib.Core.List.{List}
@@ -22,7 +23,6 @@ use Rattle.records.proofs.Sound.{variables_most}
 use Rattle.wire.specs.Opening.{placed}
 use Rattle.node.specs.Promise.{table_with, packet_left_of}
 use Rattle.results.specs.Results.{result_left, result_left_of, store_left, store_left_of, fresh_left, fresh_left_of}
-use Rattle.results.specs.declared.Stored.TheVariants as S
 use Rattle.readings.specs.Answers.{writing_left_of}
 use Rattle.columns.specs.Columns.{columns_of}
 use Rattle.columns.proofs.Columns.{columns_same}
@@ -93,7 +93,7 @@ unfolding board_store
 store_same x i bytes = columns_same (λ us. store_of (with_variables us x) i bytes) (refused x.values) long x.variables
   where
     refused : List ℕ → PlainBytesLeft
-    refused values = plain_store_left_of (store_left (S.Refused BoardUnusable) values)
+    refused values = plain_store_left_of (store_left (Err BoardUnusable) values)
 
     long : (us : List Variable) → 64 < length us → store_of (with_variables us x) i bytes ≡ refused x.values
     long us h =
@@ -106,7 +106,7 @@ unfolding fresh_board
 fresh_same x = columns_same (λ us. fresh_of (with_variables us x)) (refused x.sums) long x.variables
   where
     refused : List ℕ → PlainFreshLeft
-    refused sums = plain_fresh_left_of (fresh_left (S.Refused BoardUnusable) x.lengths sums)
+    refused sums = plain_fresh_left_of (fresh_left (Err BoardUnusable) x.lengths sums)
 
     filled : Lending → State
     filled y = full (layout (table_in y)) (held_in y)

@@ -1,5 +1,6 @@
 -- What a caller may lean on: each promise allows one result only, where x is its right side, what the call comes to; and a refused call
 -- leaves what it was lent as it was. Assumes nothing.
+use Rattle.std.specs.Prelude.{Ok, Err}
 use mathlib.Core.Path.{◌≡◌, refl, sym, ap, ◌∙◌}
 use mathlib.Core.Bool.{Bool}
 use mathlib.Core.List.{List}
@@ -18,13 +19,11 @@ use Rattle.records.specs.declared.Groups.{Groups}
 use Rattle.wire.specs.Opening.{placed}
 use Rattle.node.specs.Promise.{PacketLeft, packet_left_of}
 use Rattle.node.proofs.Unique.{refused_keeps}
-use Rattle.results.specs.Results.{ran_of, ResultLeft, result_left, result_left_of, StoreLeft, store_left, store_left_of, FreshLeft, fresh_left, fresh_left_of}
-use Rattle.results.specs.declared.Stored.{Stored}
-use Rattle.results.specs.declared.Stored.TheVariants as S
+use Rattle.results.specs.Results.{ResultLeft, result_left, result_left_of, Stored, StoreLeft, store_left, store_left_of, FreshLeft, fresh_left, fresh_left_of}
 use Rattle.results.proofs.Unique.{refused_reply, refused_values, refused_fresh}
 use Rattle.readings.specs.Answers.{writing_left_of}
 use Rattle.plain.specs.Lending.{Lending, table_in, lent_in, held_in}
-use Rattle.endings.specs.Numbers.{plain_outcome_of, ran_from, stored_number, PlainReading, signed_says, unsigned_says}
+use Rattle.endings.specs.Numbers.{plain_outcome_of, ran_from, done_number, PlainReading, signed_says, unsigned_says}
 use Rattle.plain.specs.Calls.{PlainPacketLeft, plain_packet_left, packet_of, PlainResultLeft, plain_result_left, result_of, PlainBytesLeft, plain_bytes_left, plain_writing_left_of, store_of, PlainFreshLeft, plain_fresh_left, fresh_of, writing_of}
 use Rattle.endings.specs.declared.PlainOutcome.{PlainOutcome}
 use Rattle.endings.specs.declared.PlainSignedReading.{PlainSignedReading}
@@ -72,21 +71,20 @@ pub packet_refused : (x : Lending) (own multicast busy : ℕ) (request reply : L
 packet_refused x own multicast busy request reply o g' reply' values' blocks' lengths' sums' five h k =
     let y : PacketLeft = packet_left_of (packet (table_in x) (placed own multicast) busy (length reply) request (held_in x)) reply x.groups in
     let r = refused_kind y.outcome (sym (λ i. (h i).outcome.kind) ∙ k) in
-    let z = refused_keeps (table_in x) (placed own multicast) busy request x.groups r.0 (record { outcome = y.outcome; count = y.groups.count })
-    y.groups.sets reply y.reply x.values y.values x.blocks y.blocks x.lengths y.lengths x.sums y.sums five r.1 refl in
+    let z = refused_keeps (table_in x) (placed own multicast) busy request x.groups r.0 y.outcome y.groups reply y.reply x.values y.values x.blocks y.blocks x.lengths y.lengths x.sums y.sums five r.1 refl in
     ((λ i. (h i).reply) ∙ z.0, (λ i. (h i).values) ∙ z.1, (λ i. (h i).blocks) ∙ z.2, (λ i. (h i).lengths) ∙ z.3, (λ i. (h i).sums) ∙ z.4, (λ i. (h i).groups) ∙ z.5)
 
 pub function_result_refused : (x : Lending) (f : ℕ) (due failed : Bool) (error : ℕ) (output reply : List ℕ) (o : PlainOutcome) (reply' : List ℕ)
     → plain_result_left o reply' ≡ result_of x f due failed error output reply → o.kind ≡ 3 → reply' ≡ reply
 function_result_refused x f due failed error output reply o reply' h k =
-    let e : Ending = (function_result (table_in x) (length reply) (function f) due (ran_of (ran_from failed error) output) (held_in x)).ending in
+    let e : Ending = (function_result (table_in x) (length reply) (function f) due (ran_from failed error output) (held_in x)).ending in
     let y : ResultLeft = result_left_of e reply in
     let r = refused_kind y.outcome (sym (λ i. (h i).outcome.kind) ∙ k) in
     (λ i. (h i).reply) ∙ refused_reply e r.0 reply y.reply (ap (λ (u : Outcome). result_left u y.reply) (sym r.1))
 
-refused_store : (s : Stored) → (stored_number s ≡ 0 → ⊥) → (n : Refusal) × (s ≡ S.Refused n)
-refused_store S.Done h = absurd (h refl)
-refused_store (S.Refused n) h = (n, refl)
+refused_store : (s : Stored) → (done_number s ≡ 0 → ⊥) → (n : Refusal) × (s ≡ Err n)
+refused_store (Ok u) h = absurd (h refl)
+refused_store (Err n) h = (n, refl)
 
 pub board_store_refused : (x : Lending) (i : ℕ) (bs : List ℕ) (n : ℕ) (values' : List ℕ)
     → plain_bytes_left n values' ≡ store_of x i bs → (n ≡ 0 → ⊥) → values' ≡ x.values

@@ -4,7 +4,6 @@ use Rattle.std.specs.Prelude.{◌≡◌, Bool, false, cond, List, [], ◌∷◌,
 use Rattle.bsmp.specs.Board.{variable, function}
 use Rattle.bsmp.specs.Apart.{Call, packet_in, result_in, store_in, fresh_in}
 use Rattle.bsmp.specs.declared.Outcome.TheVariants as O
-use Rattle.results.specs.Results.{ran_of}
 use Rattle.plain.specs.Lending.{Lending, lending}
 use Rattle.endings.specs.Numbers.{plain_outcome_of, ran_from}
 use Rattle.plain.specs.Calls.{PlainPacketLeft, packet_of, PlainResultLeft, result_of, PlainBytesLeft, store_of, PlainFreshLeft, fresh_of}
@@ -47,7 +46,7 @@ last_in x (r ∷ rs) = last_in (left_in x r) rs
 -- the same call, as the definition has it
 abbrev pub call_of : Turn → Call
 call_of (packet_turn busy p b z) = packet_in busy p b
-call_of (result_turn f due failed error out b z) = result_in (function f) due (ran_of (ran_from failed error) out) b
+call_of (result_turn f due failed error out b z) = result_in (function f) due (ran_from failed error out) b
 call_of (store_turn i b z) = store_in (variable i) b
 call_of (fresh_turn z) = fresh_in
 

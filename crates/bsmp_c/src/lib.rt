@@ -119,6 +119,7 @@ pub extern "C" fn bsmp_fresh_board(
     )
 }
 
+#[tactic(auto, using(crate::proofs::Same::reading_same))]
 #[unsafe(no_mangle)]
 pub extern "C" fn bsmp_read_signed(
     variables: &[Variable],
@@ -130,6 +131,7 @@ pub extern "C" fn bsmp_read_signed(
     plain::read_signed(&columns::taken(variables), variable, bytes)
 }
 
+#[tactic(auto, using(crate::proofs::Same::reading_same))]
 #[unsafe(no_mangle)]
 pub extern "C" fn bsmp_read_unsigned(
     variables: &[Variable],
@@ -141,6 +143,7 @@ pub extern "C" fn bsmp_read_unsigned(
     plain::read_unsigned(&columns::taken(variables), variable, bytes)
 }
 
+#[tactic(auto, using(crate::proofs::Same::writing_same))]
 #[unsafe(no_mangle)]
 pub extern "C" fn bsmp_write_signed(
     variables: &[Variable],
@@ -153,6 +156,7 @@ pub extern "C" fn bsmp_write_signed(
     plain::write(&columns::taken(variables), variable, number, buffer)
 }
 
+#[tactic(auto, using(crate::proofs::Same::writing_same))]
 #[unsafe(no_mangle)]
 pub extern "C" fn bsmp_write_unsigned(
     variables: &[Variable],
