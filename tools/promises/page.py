@@ -74,7 +74,7 @@ def gives(member, parameters):
     """`λ code kind. kind ≡ kind_of code` of a member such as from_gives, said of the method's parameters and result."""
     m = re.match(r"λ ([\w ]+)\. (.*)", member)
     names = dict(zip(m.group(1).split(), [*(p.split(":")[0].strip() for p in parameters), "r"])) if m else {}
-    return re.sub(r"\w+", lambda word: names.get(word.group(), word.group()), m.group(2)) if m else "`%s` of them" % member
+    return re.sub(r"\w+", lambda word: names.get(word.group(), word.group()), m.group(2)) if m else member
 
 
 def blocks(text):
@@ -120,6 +120,7 @@ def functions(path):
             promises = "`%s`" % gives(member, [p for p in parameters if "self" not in p] if "self" not in parameters else parameters)
         elif trait and not promises:
             continue
+        owner = re.sub(r"<'\w+>", "", owner)
         rows.append((m.start(), "::".join([owner] * bool(owner) + [m.group(3)]) + generics, ", ".join(parameters), asks, promises))
     return [row[1:] for row in sorted(rows)]
 
