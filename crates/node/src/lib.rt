@@ -53,7 +53,8 @@ fn close(due: bool, said: Spoken, reply: &mut [u8]) -> Outcome
     }
 }
 
-// The message of a packet on a usable board, served and closed in its packet.
+// The message of a packet on a usable board, served and closed in its packet. What is lent to read comes one by one: `Board` has the stores too,
+// which are changed here.
 fn answer(
     due: bool,
     records: &Records,
@@ -90,7 +91,7 @@ fn answer(
     Received { outcome, regroup }
 }
 
-// A packet on a board that was tested.
+// A packet on a board that was tested. Own address, multicast byte and busy marks are used here only.
 fn receive(
     tested: bool,
     records: &Records,

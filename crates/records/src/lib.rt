@@ -60,7 +60,8 @@ pub struct Start {
     pub bytes: usize,
 }
 
-// The writable variables as marks, by their types, from the last to the first.
+// The writable variables as marks, by their types, from the last to the first: by their places, since the marks so far are those of the types
+// from a place on, which an iterator from the back would have to say by what it has yielded.
 #[tactic(auto, using(crate::proofs::Marking::twice_fits, crate::proofs::Marking::marks_fit))]
 pub fn marks_of(types: &[u8]) -> u64
     requires { (length types.now ≤ 64) × (every is_type types.now ≡ true) }

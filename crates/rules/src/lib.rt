@@ -71,7 +71,7 @@ pub fn usable_curve(c: Curve) -> bool
 }
 
 // The rules of the curve records, and what their blocks add up to if they are kept; each is tested before it counts, so that the sum fits. A
-// record that is cut off breaks them.
+// record that is cut off breaks them. By number, and not by chunks of three, since `curve_at` says already which three numbers are a record.
 pub fn usable_curves(curves: &[u32]) -> Option<CurveTotal>
     ensures { result ≡ curves_total (curves_of curves.now) }
 {
@@ -140,8 +140,8 @@ pub fn usable_groups(groups: &Groups, variables: usize) -> bool
     if 5 < groups.count {
         return false;
     }
-    for i in 0..groups.count as usize {
-        if !usable_group(groups.sets[i], variables) {
+    for set in &groups.sets[..groups.count as usize] {
+        if !usable_group(*set, variables) {
             return false;
         }
     }
