@@ -21,7 +21,7 @@ use Rattle.sets.specs.Members.{members_below, members_of, size_at, set_bytes}
 use Rattle.sets.specs.Promises.{Sound, BytesAt, Turned}
 use Rattle.sets.proofs.Places.{place_room}
 use Rattle.sets.proofs.Members.{members_from, from_next}
-use Rattle.sets.proofs.Inside.{AllBelow, members_inside, all_first, all_others}
+use Rattle.sets.proofs.Inside.{AllBelow, members_inside, all_others}
 use Rattle.members.proofs.Whole.{set_small}
 
 -- bytes of each member laid one after another, from a place on; so many may still come
@@ -194,9 +194,6 @@ module _ (ns : List ℕ) (m : ℕ) where
   add_start rest e = rw e (record { inside = members_inside m (length ns); left = omega arith })
 
   module _ (rest : List VariableNumber) (i : VariableNumber) (rest' : List VariableNumber) (b : ℕ) (e : rest ≡ i ∷ rest') (q : Adding rest b) where
-    pub add_room : i.0 < length ns
-    add_room = all_first (length ns) i rest' (rw e at q.inside)
-
     pub add_next : Adding rest' (b + get_or ns i.0 0)
     unfolding sum
     add_next =

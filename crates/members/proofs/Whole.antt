@@ -5,7 +5,6 @@ use mathlib.Core.List.{List, [], ◌∷◌, ◌++◌, map, append_assoc}
 use Prim.Native.Nat.{ℕ, suc, ◌+◌, ◌-◌, ◌*◌, ◌^◌, ◌≤◌, ◌<◌}
 use native.Mathlib.Omega.{arith}
 use native.Mathlib.Numerals.{add-one}
-use native.Mathlib.Nat.{add-zero}
 use lib.ListN.{length, take, drop, get_or, set, length-append, length-drop, length-map}
 use lib.Seq.{take_all, get_or-append_seam, set-append_seam}
 use Rattle.bsmp.specs.Base.{sum, up_from, only, cut, join}
@@ -33,11 +32,6 @@ unfolding members_below
 all_members n h = only_same (marked (2 ^ 64 - 1)) (λ i. true) 0 n (λ k l. has_all k (omega (arith, l))) ∙ only_true (map variable (up_from 0 n))
 
 -- their numbers, one after another: the walk that lists them, and the list
-pub all_start : (r : List ℕ) (at n : ℕ) → put r (at + 0) (up_from 0 (n - 0)) ≡ put r at (up_from 0 n)
-all_start r at n =
-    let k : n - 0 ≡ n = omega arith in
-    rw (k, add-zero)
-
 pub all_next : (r : List ℕ) (at i n : ℕ) (x : List ℕ) → i < n → at + i < length r → put r (at + i) (up_from i (n - i)) ≡ x
     → put (set r (at + i) i) (at + (i + 1)) (up_from (i + 1) (n - (i + 1))) ≡ x
 all_next r at i n x h l e =

@@ -1,13 +1,15 @@
 // The members of a set, walked in order of number: what they add up to, their values read and changed, their numbers.
 #![tactic(auto)]
 
-ghost use Rattle.std.specs.Prelude.{◌≡◌, cond, map, ◌+◌, ◌%◌, ◌≤◌, eqb, length, drop};
-ghost use Rattle.bsmp.specs.Base.{cut, up_from};
-ghost use Rattle.bsmp.specs.Message.{changed, edited, values_of};
-ghost use Rattle.copies.specs.Put.{put, part};
+ghost use Rattle.std.specs.Prelude.{◌≡◌, map, ◌+◌, ◌-◌, ◌%◌, ◌^◌, ◌≤◌, ◌<◌, length, take, drop};
+ghost use Rattle.std.specs.Option.{MatchOption};
+ghost use Rattle.std.specs.Iterator.{at_most};
+ghost use Rattle.bsmp.specs.Base.{sum, cut, up_from};
+ghost use Rattle.bsmp.specs.Message.{edited, values_of};
+ghost use Rattle.copies.specs.Put.{put};
 ghost use Rattle.sets.specs.Members.{members_of, members_below, size_at, set_bytes};
 ghost use Rattle.sets.specs.Promises.{Sound, BytesAt};
-ghost use Rattle.members.specs.Runs.{StartOf, run_read, run_changed, RunOn};
+ghost use Rattle.members.specs.Walked.{RunOf};
 
 use bsmp::Operation;
 use sets::Walk;
@@ -28,18 +30,7 @@ pub fn set_bytes(sizes: &[u8], set: u64) -> usize
     bytes
 }
 
-// A number that no member is below: the lowest of them, if there are any.
-fn start_of(set: u64) -> usize
-    ensures { StartOf set result }
-{
-    if set == 0 {
-        return 0;
-    }
-    sets::lowest(set)
-}
-
-// Members that a walk met last, one right after the other, and has not carried over yet: their bytes stand together, in the store from `at` on
-// and in the reply or the payload from `other` on.
+// Members right after one another: their bytes stand together, in the store from `at` on and in the reply or the payload from `other` on.
 #[derive(Clone, Copy)]
 struct Run {
     at: usize,
@@ -47,28 +38,73 @@ struct Run {
     other: usize,
 }
 
-// A variable of n bytes on the walk. A member lengthens the run; at any other the run is read into the reply, and a new one begins behind it.
-fn read_turn(rest: u64, n: usize, values: &[u8], reply: &mut [u8], run: Run) -> Run
-    requires { (run.at + run.bytes + n ≤ length values.now) × (run.other + run.bytes + n ≤ length reply.old) }
-    ensures { let store = values.now in
-        let value = part store (run.at + run.bytes) n in
-        let before = run_read run store reply.old in
-        RunOn (eqb (rest % 2) 1) n value run before (run.other + run.bytes) result (run_read result store reply.new) }
-{
-    if rest % 2 == 1 {
-        return Run {
-            at: run.at,
-            bytes: run.bytes + n,
-            other: run.other,
-        };
+// A walk over the runs of a set's members, ascending. It stands before variable i, whose bytes begin at `at`; `rest` are the marks from there on,
+// and the next run's bytes stand in the reply or the payload from `other` on.
+#[derive(Drop)]
+struct RunWalk<'a> {
+    sizes: &'a [u8],
+    rest: u64,
+    i: usize,
+    at: usize,
+    other: usize,
+    ghost few: { length sizes.now ≤ 64 },
+    ghost small: { sum sizes.now < 2 ^ 64 },
+    ghost inside: { i ≤ length sizes.now },
+    ghost left: { rest < 2 ^ (length sizes.now - i) },
+    ghost place: { at ≡ sum (take i sizes.now) },
+    ghost room: { other + sum (drop i sizes.now) < 2 ^ 64 },
+}
+
+impl<'a> RunWalk<'a> {
+    // Over those of a set's members that are variables with these sizes; the first run's bytes stand from `other` on.
+    fn over(sizes: &'a [u8], set: u64, other: usize) -> RunWalk<'a>
+        requires { (length sizes.now ≤ 64) × (other + sum sizes.now < 2 ^ 64) }
+        ensures { (result.sizes.now ≡ sizes.now) × (result.rest ≡ set % 2 ^ length sizes.now) × (result.i ≡ 0) × (result.other ≡ other) }
+    {
+        RunWalk {
+            sizes,
+            rest: sets::declared(set, sizes.len()),
+            i: 0,
+            at: 0,
+            other,
+        }
     }
-    copies::read_value(values, run.at, run.bytes, reply, run.other);
-    let from = run.at + run.bytes + n;
-    let to = run.other + run.bytes;
-    Run {
-        at: from,
-        bytes: 0,
-        other: to,
+}
+
+impl Iterator for RunWalk<'_> {
+    type Item = Run;
+
+    // the first run of what is left, or none where no mark is left
+    ghost next_gives = { λ s r t. (t.sizes.now ≡ s.sizes.now) × MatchOption r (s.rest ≡ 0) (λ x.
+        (x.other ≡ s.other) × (t.other ≡ s.other + x.bytes) × RunOf s.sizes.now s.rest s.i x.at x.bytes t.rest t.i) };
+
+    ghost remaining = { λ s. at_most (length s.sizes.now - s.i) };
+
+    fn next(&mut self) -> Option<Run> {
+        if self.rest == 0 {
+            return None;
+        }
+        let gap = sets::lowest(self.rest);
+        let first = self.i + gap;
+        let at = self.at + lists::offset(&self.sizes[self.i..], gap);
+        let mut bytes = usize::from(self.sizes[first]);
+        let mut i = first + 1;
+        let mut rest = (self.rest >> gap) / 2;
+        while rest % 2 == 1 {
+            bytes += usize::from(self.sizes[i]);
+            i += 1;
+            rest /= 2;
+        }
+        let run = Run {
+            at,
+            bytes,
+            other: self.other,
+        };
+        self.rest = rest;
+        self.i = i;
+        self.at = at + bytes;
+        self.other += bytes;
+        Some(run)
     }
 }
 
@@ -85,50 +121,12 @@ pub fn read_members(sizes: &[u8], set: u64, values: &[u8], reply: &mut [u8], at:
         copies::read_value(values, 0, all, reply, at);
         return all;
     }
-    let members = sets::declared(set, sizes.len());
-    let mut i = start_of(members);
-    let mut rest = members >> i;
-    let mut run = Run {
-        at: lists::offset(sizes, i),
-        bytes: 0,
-        other: at,
-    };
-    while rest != 0 {
-        run = read_turn(rest, sizes[i] as usize, values, reply, run);
-        i += 1;
-        rest = rest / 2;
+    let mut to = at;
+    for run in RunWalk::over(sizes, set, at) {
+        copies::read_value(values, run.at, run.bytes, reply, run.other);
+        to = run.other + run.bytes;
     }
-    copies::read_value(values, run.at, run.bytes, reply, run.other);
-    run.other + run.bytes - at
-}
-
-// The same for a walk that changes: at any other variable the run is changed by its part of the payload.
-fn change_turn(
-    rest: u64,
-    n: usize,
-    values: &mut [u8],
-    op: Operation,
-    payload: &[u8],
-    run: Run,
-) -> Run
-    requires { (run.at + run.bytes + n ≤ length values.old) × (run.other + run.bytes + cond (eqb (rest % 2) 1) n 0 ≤ length payload.now) }
-    ensures { let before = run_changed op run payload.now values.old in
-        let value = changed op (part before (run.at + run.bytes) n) (part payload.now (run.other + run.bytes) n) in
-        RunOn (eqb (rest % 2) 1) n value run before (run.at + run.bytes) result (run_changed op result payload.now values.new) }
-{
-    if rest % 2 == 1 {
-        return Run {
-            at: run.at,
-            bytes: run.bytes + n,
-            other: run.other,
-        };
-    }
-    lists::change_value(values, run.at, run.bytes, op, payload, run.other);
-    Run {
-        at: run.at + run.bytes + n,
-        bytes: 0,
-        other: run.other + run.bytes,
-    }
+    to - at
 }
 
 // Each member's value changed by its part of the payload, from place `front` on.
@@ -151,20 +149,9 @@ pub fn change_members(
         lists::change_value(values, 0, all, op, payload, front);
         return;
     }
-    let written = sets::declared(set, sizes.len());
-    let mut i = start_of(written);
-    let mut rest = written >> i;
-    let mut run = Run {
-        at: lists::offset(sizes, i),
-        bytes: 0,
-        other: front,
-    };
-    while rest != 0 {
-        run = change_turn(rest, sizes[i] as usize, values, op, payload, run);
-        i += 1;
-        rest = rest / 2;
+    for run in RunWalk::over(sizes, set, front) {
+        lists::change_value(values, run.at, run.bytes, op, payload, run.other);
     }
-    lists::change_value(values, run.at, run.bytes, op, payload, run.other);
 }
 
 // The numbers of the first variables, a byte each, into the reply from `at` on.

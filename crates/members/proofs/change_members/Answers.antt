@@ -1,8 +1,7 @@
 -- `change_members` meets its contract. Assumes nothing.
-use native.Mathlib.Omega.{arith}
+use Rattle.std.proofs.Common.{rules, ◌∙◌}
 use Rattle.members.proofs.Whole.{whole_room, change_whole}
-use Rattle.members.proofs.Runs.{start_inside, run_edit_start, run_edit_inside, run_edit_at, run_edit_from, run_edit_next, run_edit_last, run_edit_room, run_edit_end}
-use borrow.Author.Rules.{rules}
+use Rattle.members.proofs.Runs.{run_edit_start, run_edit_from, run_edit_to, run_edit_next, run_edit_end}
 use Rattle.members.proofs.change_members.Goals as goal
 
 pub change_value-requires : goal.change_value-requires
@@ -11,26 +10,23 @@ change_value-requires c = (search rules, search (whole_room, rules))
 pub returns-then-set : goal.returns-then-set
 returns-then-set c = search (whole_room, change_whole, rules)
 
-pub offset-requires : goal.offset-requires
-offset-requires c = (search (start_inside, rules), search rules)
+pub loop-run-init : goal.loop-run-init
+loop-run-init c = ((cc), run_edit_start _ _ _ _ _ _ _ _ _ c.requires.sound c.requires.sizes_in_bounds (cc) (cc) (cc))
 
-pub loop-rest-init : goal.loop-rest-init
-loop-rest-init c = search (run_edit_start, rules)
+pub change_value-requires-in-loop-run : goal.change_value-requires-in-loop-run
+change_value-requires-in-loop-run c =
+    let q = c.loop-run.invariant in
+    let t = c.in-Some.ensures.steps in
+    let w = rw q.0 at t.1.2 in
+    (run_edit_from _ _ _ _ _ _ _ _ _ _ q.1 _ _ _ _ w, rw t.1.0 (run_edit_to _ _ _ _ _ _ _ _ _ _ q.1 _ _ _ _ w))
 
-pub bounds-sizes-i : goal.bounds-sizes-i
-bounds-sizes-i c = search (run_edit_inside, rules)
-
-pub overflow_cast-sizes : goal.overflow_cast-sizes
-overflow_cast-sizes c = omega (arith, c.shared_slice_known-in-loop-rest-1.given c.loop-rest.i)
-
-pub change_turn-run-requires : goal.change_turn-run-requires
-change_turn-run-requires c = (search (run_edit_at, rules), search (run_edit_from, rules))
-
-pub loop-rest-preserved : goal.loop-rest-preserved
-loop-rest-preserved c = search (run_edit_next, rules)
-
-pub change_value-requires-2 : goal.change_value-requires-2
-change_value-requires-2 c = (search (run_edit_last, rules), search (run_edit_room, rules))
+pub loop-run-preserved : goal.loop-run-preserved
+loop-run-preserved c =
+    let q = c.loop-run.invariant in
+    let t = c.in-Some.ensures.steps in
+    let w = rw q.0 at t.1.2 in
+    let r = rw t.1.0 at c.change_value-in-loop-run.ensures in
+    (t.0 ∙ q.0, run_edit_next _ _ _ _ _ _ _ _ _ _ q.1 _ _ _ _ w _ _ t.1.1 r)
 
 pub returns : goal.returns
-returns c = search (run_edit_end, rules)
+returns c = run_edit_end _ _ _ _ _ _ _ _ _ _ c.loop-run.invariant.1 c.in-None.ensures.steps.1

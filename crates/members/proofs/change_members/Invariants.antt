@@ -1,9 +1,9 @@
 -- `change_members` meets its contract. Assumes nothing.
+use Rattle.std.proofs.Common.{◌≡◌}
 use Rattle.members.proofs.Runs.{EditingRun}
 use Rattle.members.proofs.change_members.Given as goal
 
-abbrev pub invariant-loop-rest : goal.invariant-loop-rest
-invariant-loop-rest l = EditingRun l.op l.sizes l.payload l.set l.front l.initial.values l.i l.rest l.run l.values
-
-abbrev pub decreases-loop-rest : goal.decreases-loop-rest
-decreases-loop-rest l = l.rest
+abbrev pub invariant-loop-run : goal.invariant-loop-run
+invariant-loop-run l =
+    let it = l.run-iterator in
+    (it.sizes.now ≡ l.sizes) × EditingRun l.op l.sizes l.payload l.set l.front l.initial.values it.i it.rest it.other l.values

@@ -1,36 +1,31 @@
 -- `read_members` meets its contract. Assumes nothing.
-use native.Mathlib.Omega.{arith}
+use Rattle.std.proofs.Common.{rules, ◌∙◌}
 use Rattle.members.proofs.Whole.{read_whole}
-use Rattle.members.proofs.Runs.{start_inside, run_read_start, run_read_inside, run_read_from, run_read_to, run_read_next, run_read_last, run_read_room, run_read_begun, run_read_end}
-use borrow.Author.Rules.{rules}
+use Rattle.members.proofs.Runs.{run_read_start, run_read_from, run_read_to, run_read_next, run_read_end}
 use Rattle.members.proofs.read_members.Goals as goal
 
 pub returns-then-set : goal.returns-then-set
 returns-then-set c = search (read_whole, rules)
 
-pub offset-requires : goal.offset-requires
-offset-requires c = (search (start_inside, rules), search rules)
+pub loop-run-init : goal.loop-run-init
+loop-run-init c = ((cc), run_read_start _ _ _ _ _ _ _ _ c.requires.sound (cc) (cc) (cc))
 
-pub loop-rest-init : goal.loop-rest-init
-loop-rest-init c = search (run_read_start, rules)
+pub read_value-requires-in-loop-run : goal.read_value-requires-in-loop-run
+read_value-requires-in-loop-run c =
+    let q = c.loop-run.invariant in
+    let t = c.in-Some.ensures.steps in
+    let w = rw q.0 at t.1.2 in (
+      run_read_from _ _ _ _ _ c.requires.sound c.requires.at_in_bounds _ _ _ _ _ q.1 _ _ _ _ w,
+      rw t.1.0 (run_read_to _ _ _ _ _ c.requires.sound c.requires.at_in_bounds _ _ _ _ _ q.1 _ _ _ _ w),
+    )
 
-pub bounds-sizes-i : goal.bounds-sizes-i
-bounds-sizes-i c = search (run_read_inside, rules)
-
-pub overflow_cast-sizes : goal.overflow_cast-sizes
-overflow_cast-sizes c = omega (arith, c.shared_slice_known-in-loop-rest-1.given c.loop-rest.i)
-
-pub read_turn-run-requires : goal.read_turn-run-requires
-read_turn-run-requires c = (search (run_read_from, rules), search (run_read_to, rules))
-
-pub loop-rest-preserved : goal.loop-rest-preserved
-loop-rest-preserved c = search (run_read_next, rules)
-
-pub read_value-requires-2 : goal.read_value-requires-2
-read_value-requires-2 c = (search (run_read_last, rules), search (run_read_room, rules))
-
-pub overflow_sub-result : goal.overflow_sub-result
-overflow_sub-result c = search (run_read_begun, rules)
+pub loop-run-preserved : goal.loop-run-preserved
+loop-run-preserved c =
+    let q = c.loop-run.invariant in
+    let t = c.in-Some.ensures.steps in
+    let w = rw q.0 at t.1.2 in
+    let r = rw t.1.0 at c.read_value-in-loop-run.ensures in
+    (t.0 ∙ q.0, rw t.1.0 (run_read_next _ _ _ _ _ c.requires.sound c.requires.at_in_bounds _ _ _ _ _ q.1 _ _ _ _ w _ _ t.1.1 r))
 
 pub returns : goal.returns
-returns c = search (run_read_end, rules)
+returns c = run_read_end _ _ _ _ _ c.requires.sound c.requires.at_in_bounds _ _ _ _ _ c.loop-run.invariant.1 c.in-None.ensures.steps.1

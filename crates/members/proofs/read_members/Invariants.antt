@@ -1,9 +1,9 @@
 -- `read_members` meets its contract. Assumes nothing.
+use Rattle.std.proofs.Common.{◌≡◌}
 use Rattle.members.proofs.Runs.{ReadingRun}
 use Rattle.members.proofs.read_members.Given as goal
 
-abbrev pub invariant-loop-rest : goal.invariant-loop-rest
-invariant-loop-rest l = ReadingRun l.sizes l.values l.set l.initial.reply l.at l.i l.rest l.run l.reply
-
-abbrev pub decreases-loop-rest : goal.decreases-loop-rest
-decreases-loop-rest l = l.rest
+abbrev pub invariant-loop-run : goal.invariant-loop-run
+invariant-loop-run l =
+    let it = l.run-iterator in
+    (it.sizes.now ≡ l.sizes) × ReadingRun l.sizes l.values l.set l.initial.reply l.at it.i it.rest it.other l.reply l.to
