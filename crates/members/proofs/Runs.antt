@@ -4,7 +4,7 @@ use mathlib.Core.Bool.{true, false}
 use mathlib.Core.List.{List, [], ◌++◌, map}
 use Prim.Native.Nat.{ℕ, zero, suc, ◌+◌, ◌-◌, ◌/◌, ◌%◌, ◌^◌, ◌≤◌, ◌<◌}
 use native.Mathlib.Omega.{arith}
-use native.Mathlib.Nat.{add-zero, div-div-eq-div-mul, div-lt_iff_lt-mul}
+use native.Mathlib.Nat.{add-zero, mod-lt, div-div-eq-div-mul, div-lt_iff_lt-mul}
 use lib.ListN.{length, take, drop, get_or, take-append-drop}
 use lib.Pow.{pow_pos, pow-add}
 use lib.Seq.{take-add, take_at, drop_at, drop-drop}
@@ -18,10 +18,10 @@ use Rattle.lists.proofs.Sum.{total_split, total_take}
 use Rattle.lists.proofs.Mask.{length_change, mask_nil, take_changed, drop_changed}
 use Rattle.sets.specs.Members.{members_below, members_of, size_at, set_bytes}
 use Rattle.sets.specs.Promises.{Sound, BytesAt, Turned}
-use Rattle.sets.proofs.Members.{members_from, from_all, from_none}
+use Rattle.sets.proofs.Members.{members_from, from_start, from_none}
 use Rattle.sets.proofs.AtOnce.{below_declared, has_past}
 use Rattle.sets.proofs.Places.{place_room}
-use Rattle.members.specs.Walked.{RunOf}
+use Rattle.members.specs.Walked.{StartOf, Begun, RunOf}
 use Rattle.members.proofs.Stepped.{take_grows}
 use Rattle.members.proofs.Walk.{Reading, read_start, read_room, read_next, read_end, Editing, edit_start, edit_room, edit_next, edit_end}
 
@@ -95,8 +95,8 @@ module _ (m n i rest : ℕ) (e : rest ≡ m % 2 ^ n / 2 ^ i) where
       let l : m % 2 ^ n < 2 ^ i = omega (arith, (div-lt_iff_lt-mul {k = 2 ^ i} (pow_pos i)).0 h) in
       from_none (m % 2 ^ n) n i (λ k o. has_past (m % 2 ^ n) i k l o)
 
-marks_begin : (m n : ℕ) → members_below (m % 2 ^ n) n ≡ members_from (m % 2 ^ n) n 0
-marks_begin m n = sym (from_all (m % 2 ^ n) n)
+marks_start : (m n i : ℕ) → StartOf (m % 2 ^ n) i → members_below (m % 2 ^ n) n ≡ members_from (m % 2 ^ n) n i
+marks_start m n i q = from_start (m % 2 ^ n) n i (q.within n (mod-lt m (pow_pos n))) q.before
 
 turned_not : {k : ℕ} {v l : List ℕ} {p f : ℕ} → Turned false k v l p f f l
 turned_not {f = f} = record { passed = sym (add-zero f); bytes = refl }
@@ -147,9 +147,8 @@ module _ (ns s : List ℕ) (m : ℕ) (r₀ : List ℕ) (at : ℕ) where
     pub place : to ≡ other
     pub reading : Reading ns s own r₀ at i r other
 
-  pub run_read_start : (i rest other : ℕ) → Sound ns s → rest ≡ own → i ≡ 0 → other ≡ at → ReadingRun i rest other r₀ at
-  run_read_start i rest other z e w o =
-      rw (w, o) (record { marks = e ∙ omega arith; place = refl; reading = read_start ns s own r₀ at 0 z (marks_begin m (length ns)) })
+  pub run_read_start : (i rest other : ℕ) → Sound ns s → Begun own rest i → other ≡ at → ReadingRun i rest other r₀ at
+  run_read_start i rest other z b o = rw o (record { marks = b.marks; place = refl; reading = read_start ns s own r₀ at i z (marks_start m (length ns) i b.start) })
 
   module _ (z : Sound ns s) (room : at + 4096 ≤ length r₀) (i rest other : ℕ) (r : List ℕ) (to : ℕ) (q : ReadingRun i rest other r to) where
     module _ (a b rest' i' : ℕ) (w : RunOf ns rest i a b rest' i') where
@@ -235,11 +234,11 @@ module _ (op : Operation) (ns p : List ℕ) (m front : ℕ) (s₀ : List ℕ) wh
     pub marks : rest ≡ marked_own / 2 ^ i
     pub editing : Editing op ns p marked_own front s₀ i s other
 
-  pub run_edit_start : (i rest other : ℕ) → Sound ns s₀ → front + set_bytes m ns ≤ length p → rest ≡ marked_own → i ≡ 0 → other ≡ front → EditingRun i rest other s₀
+  pub run_edit_start : (i rest other : ℕ) → Sound ns s₀ → front + set_bytes m ns ≤ length p → Begun marked_own rest i → other ≡ front → EditingRun i rest other s₀
   unfolding set_bytes
-  run_edit_start i rest other z l e w o =
+  run_edit_start i rest other z l b o =
       let k : front + set_bytes marked_own ns ≤ length p = rw (below_declared m (length ns) (length ns) (omega arith)) l in
-      rw (w, o) (record { marks = e ∙ omega arith; editing = edit_start op ns p marked_own front s₀ 0 z k (marks_begin m (length ns)) })
+      rw o (record { marks = b.marks; editing = edit_start op ns p marked_own front s₀ i z k (marks_start m (length ns) i b.start) })
 
   module _ (i rest other : ℕ) (s : List ℕ) (q : EditingRun i rest other s) where
     module _ (a b rest' i' : ℕ) (w : RunOf ns rest i a b rest' i') where

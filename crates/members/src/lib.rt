@@ -9,7 +9,7 @@ ghost use Rattle.bsmp.specs.Message.{edited, values_of};
 ghost use Rattle.copies.specs.Put.{put};
 ghost use Rattle.sets.specs.Members.{members_of, members_below, size_at, set_bytes};
 ghost use Rattle.sets.specs.Promises.{Sound, BytesAt};
-ghost use Rattle.members.specs.Walked.{RunOf};
+ghost use Rattle.members.specs.Walked.{StartOf, Begun, RunOf};
 
 use bsmp::Operation;
 use sets::Walk;
@@ -28,6 +28,17 @@ pub fn set_bytes(sizes: &[u8], set: u64) -> usize
         bytes += usize::from(sizes[i.0]);
     }
     bytes
+}
+
+// A number that no member is below: the lowest of them, if there are any.
+#[tactic(auto, using(crate::proofs::Stepped::start_none, crate::proofs::Stepped::start_lowest))]
+fn start_of(set: u64) -> usize
+    ensures { StartOf set result }
+{
+    if set == 0 {
+        return 0;
+    }
+    sets::lowest(set)
 }
 
 // Members right after one another: their bytes stand together, in the store from `at` on and in the reply or the payload from `other` on.
@@ -56,16 +67,19 @@ struct RunWalk<'a> {
 }
 
 impl<'a> RunWalk<'a> {
-    // Over those of a set's members that are variables with these sizes; the first run's bytes stand from `other` on.
+    // Over those of a set's members that are variables with these sizes; the first run's bytes stand from `other` on. What is before the first
+    // member is passed at once, which is quicker than the walk.
     fn over(sizes: &'a [u8], set: u64, other: usize) -> RunWalk<'a>
         requires { (length sizes.now ≤ 64) × (other + sum sizes.now < 2 ^ 64) }
-        ensures { (result.sizes.now ≡ sizes.now) × (result.rest ≡ set % 2 ^ length sizes.now) × (result.i ≡ 0) × (result.other ≡ other) }
+        ensures { (result.sizes.now ≡ sizes.now) × (result.other ≡ other) × Begun (set % 2 ^ length sizes.now) result.rest result.i }
     {
+        let members = sets::declared(set, sizes.len());
+        let i = start_of(members);
         RunWalk {
             sizes,
-            rest: sets::declared(set, sizes.len()),
-            i: 0,
-            at: 0,
+            rest: members >> i,
+            i,
+            at: lists::offset(sizes, i),
             other,
         }
     }
@@ -84,12 +98,17 @@ impl Iterator for RunWalk<'_> {
         if self.rest == 0 {
             return None;
         }
-        let gap = sets::lowest(self.rest);
-        let first = self.i + gap;
-        let at = self.at + lists::offset(&self.sizes[self.i..], gap);
-        let mut bytes = usize::from(self.sizes[first]);
-        let mut i = first + 1;
-        let mut rest = (self.rest >> gap) / 2;
+        let mut i = self.i;
+        let mut at = self.at;
+        let mut rest = self.rest;
+        while rest % 2 == 0 {
+            at += usize::from(self.sizes[i]);
+            i += 1;
+            rest /= 2;
+        }
+        let mut bytes = usize::from(self.sizes[i]);
+        i += 1;
+        rest /= 2;
         while rest % 2 == 1 {
             bytes += usize::from(self.sizes[i]);
             i += 1;

@@ -74,20 +74,9 @@ first_member (suc d) (suc n) m l p h = below_half m n ∙ by (m % 2) (count_trai
         let f : (m - 2 ^ 0) / 2 ≡ m / 2 = omega (arith, e) in
         rw (below_half (m - 2 ^ 0) n, low_one m (omega (arith, e)), low_zero (m - 2 ^ 0) (omega (arith, e)), f)
 
--- and a mark stands there
-mark_at : (d m : ℕ) → 0 < m → m < 2 ^ d → has m (count_trailing_zeros d m) ≡ true
-unfolding count_trailing_zeros
-mark_at zero m p h = absurd (omega (arith, p, h))
-mark_at (suc d) m p h = by (m % 2) (count_trailing_zeros d (m / 2)) refl (λ q. mark_at d (m / 2) q (omega (arith, h)))
-  where
-    by : (r t : ℕ) → m % 2 ≡ r → (0 < m / 2 → has (m / 2) t ≡ true) → has m (under r t) ≡ true
-    by zero t e q = has_half m t ∙ q (omega (arith, p, e))
-    by (suc r) t e q = low_one m (omega (arith, e))
-
 pub lowest_is : (m : ℕ) → 0 < m → m < 2 ^ 64 → Lowest m (count_trailing_zeros 64 m)
 lowest_is m p h = record {
   few = first_below 64 m 64 p h;
-  own = mark_at 64 m p h;
   there = first_there 64 m p h;
   before = λ k l. none_before 64 m k l;
   below = λ n l. first_below 64 m n p l;

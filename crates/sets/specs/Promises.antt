@@ -1,5 +1,5 @@
 -- What the walks over a set ask for, and what they promise. Assumes nothing.
-use Rattle.std.specs.Prelude.{◌≡◌, Bool, true, false, cond, List, ◌∷◌, map, ℕ, ◌+◌, ◌-◌, ◌^◌, ◌≤◌, ◌<◌, length, get_or}
+use Rattle.std.specs.Prelude.{◌≡◌, Bool, false, cond, List, ◌∷◌, map, ℕ, ◌+◌, ◌-◌, ◌^◌, ◌≤◌, ◌<◌, length, get_or}
 use Rattle.bsmp.specs.Base.{sum}
 use Rattle.bsmp.specs.Board.{Layout, variable, marked, members, set_of}
 use Rattle.bsmp.specs.declared.GroupNumber.{GroupNumber}
@@ -39,7 +39,6 @@ pub record Turned (member : Bool) (k : ℕ) (v list : List ℕ) (place from next
 -- i is the lowest member of a set
 pub record Lowest (set i : ℕ) : Type 0 where
   pub few : i < 64
-  pub own : marked set (variable i) ≡ true
   pub there : 2 ^ i ≤ set
   pub before : (k : ℕ) → k < i → marked set (variable k) ≡ false
   pub below : (n : ℕ) → set < 2 ^ n → i < n

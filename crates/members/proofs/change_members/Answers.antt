@@ -11,7 +11,9 @@ pub returns-then-set : goal.returns-then-set
 returns-then-set c = search (whole_room, change_whole, rules)
 
 pub loop-run-init : goal.loop-run-init
-loop-run-init c = ((cc), run_edit_start _ _ _ _ _ _ _ _ _ c.requires.sound c.requires.sizes_in_bounds (cc) (cc) (cc))
+loop-run-init c =
+    let b = rw (← c.into_iter-run-iterator.ensures.into_iter_gives) at c.over-run-items.ensures in
+    (b.0, run_edit_start _ _ _ _ _ _ _ _ _ c.requires.sound c.requires.sizes_in_bounds b.2 b.1)
 
 pub change_value-requires-in-loop-run : goal.change_value-requires-in-loop-run
 change_value-requires-in-loop-run c =

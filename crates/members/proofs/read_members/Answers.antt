@@ -8,7 +8,9 @@ pub returns-then-set : goal.returns-then-set
 returns-then-set c = search (read_whole, rules)
 
 pub loop-run-init : goal.loop-run-init
-loop-run-init c = ((cc), run_read_start _ _ _ _ _ _ _ _ c.requires.sound (cc) (cc) (cc))
+loop-run-init c =
+    let b = rw (← c.into_iter-run-iterator.ensures.into_iter_gives) at c.over-run-items.ensures in
+    (b.0, run_read_start _ _ _ _ _ _ _ _ c.requires.sound b.2 b.1)
 
 pub read_value-requires-in-loop-run : goal.read_value-requires-in-loop-run
 read_value-requires-in-loop-run c =
