@@ -2,26 +2,26 @@
 use mathlib.Core.Path.{◌≡◌, refl, sym, ap, ◌∙◌}
 use mathlib.Core.Bool.{Bool, true, false}
 use mathlib.Core.List.{List, [], ◌∷◌, map}
-use Prim.Native.Nat.{ℕ, zero, suc, ◌-◌, min, ◌≤◌, ◌<◌}
+use Prim.Native.Nat.{ℕ, zero, suc, min, ◌≤◌, ◌<◌}
 use native.Mathlib.Omega.{arith}
 use lib.Dec.{leb}
 use lib.IntN.{ℤ}
 use lib.ListN.{length, take, get_or, replicate, length-map, length-take, get_or-replicate, get_or-map, get_or-append}
 use lib.Seq.{ext_get_or, get_or-take}
 use borrow.Author.Tests.{leb-true, leb-false}
-use borrow.Rule.Slice.PartMut.{mid_of}
 use Rattle.bsmp.specs.Base.{bit}
 use Rattle.bsmp.specs.Board.{is_type}
 use Rattle.bsmp.specs.declared.Variable.{Variable}
 use Rattle.copies.specs.Put.{put}
+use Rattle.records.specs.declared.Records.{Records}
 use Rattle.records.specs.Lending.{records_by, records_of}
 use Rattle.records.proofs.Lending.{column_count, record_at_lem}
 use Rattle.records.proofs.Walk.{length_numbered, numbered_at}
 use Rattle.asking.specs.Learned.{Slot, slot, variable_slots}
 use Rattle.asking.specs.Learning.{with_kinds, records_for}
-use Rattle.learned.specs.Table.{sizes_in, table_of}
-use Rattle.learned.specs.declared.Known.{Known}
-use Rattle.learned.proofs.Fronts.{front, size_count}
+use Rattle.learned.specs.Table.{sizes_in, held_table}
+use Rattle.learned.specs.declared.LearnedTable.{LearnedTable}
+use Rattle.learned.proofs.Fronts.{size_count}
 use Rattle.endings.specs.Numbers.{PlainReading}
 use Rattle.plain.specs.Calls.{PlainBytesLeft, reading_of, writing_of}
 use Rattle.gateway_values.specs.Values.{Taken}
@@ -53,55 +53,52 @@ kinds_typed (k ∷ ks) (v ∷ vs) = rw (by v.writable) (kinds_typed ks vs)
     by false = refl
 
 -- the kinds that were taken: d is the column before, and s how many have a place
-module _ (n s : ℕ) (ks d column : List ℕ) (h : s ≡ min (length ks) 64) (l : length d ≡ 64) (e : column ≡ put d 0 (mid_of 0 (s - 0) ks)) where
+module _ (n s : ℕ) (ks d column : List ℕ) (h : s ≡ min (length ks) 64) (l : length d ≡ 64) (e : column ≡ put d 0 (take s ks)) where
   column_at : (i : ℕ) → i < 64 → i < length ks → get_or column i 0 ≡ get_or ks i 0
   unfolding put
   column_at i a b =
       let z : i < s = omega arith in
       let y : i < length (take s ks) = simp length-take (omega arith) in
-      rw (e, front s ks) (get_or-append (take s ks) _ 0 i y ∙ get_or-take s ks i 0 z)
+      rw e (get_or-append (take s ks) _ 0 i y ∙ get_or-take s ks i 0 z)
 
-  pub taken_some : n < length ks → Taken n ks n column
-  taken_some k = record { counted = omega arith; kind_at = column_at }
-
-  pub taken_all : length ks ≤ n → Taken n ks (length ks) column
-  taken_all k = record { counted = omega arith; kind_at = column_at }
+  pub taken_both : (m : ℕ) → m ≡ min n (length ks) → Taken n ks m column
+  taken_both m k = record { counted = k; kind_at = column_at }
 
 -- the records of the definition, and those lent: as many, and with places for all, the same but for their types
-module _ (k : Known) (ss gs cs fs ks : List ℕ) (m : ℕ) (column : List ℕ) (t : Taken k.variables ks m column) where
+module _ (x : LearnedTable) (ks : List ℕ) (m : ℕ) (column : List ℕ) (t : Taken x.variables ks m column) where
   abbrev slots : List Slot
-  slots = variable_slots (table_of k ss gs cs fs).layout
+  slots = variable_slots (held_table x).layout
 
   abbrev wanted : List Variable
-  wanted = records_for (table_of k ss gs cs fs) ks
+  wanted = records_for (held_table x) ks
 
   abbrev lent : List Variable
-  lent = records_of (records_by m (replicate 64 0) ss column)
+  lent = records_of (records_by m (replicate 64 0) x.sizes column)
 
-  slots_count : length slots ≡ k.variables
-  slots_count = length_numbered _ (length (sizes_in k.variables ss)) ∙ sym (size_count k.variables ss)
+  slots_count : length slots ≡ x.variables
+  slots_count = length_numbered _ (length (sizes_in x.variables x.sizes)) ∙ sym (size_count x.variables x.sizes)
 
   wanted_count : length wanted ≡ m
   wanted_count = omega (arith, kinds_count ks slots, slots_count, t.counted)
 
-  slot_at : (i : ℕ) → i < k.variables → (get_or slots i blank_slot).size ≡ get_or ss i 0
+  slot_at : (i : ℕ) → i < x.variables → (get_or slots i blank_slot).size ≡ get_or x.sizes i 0
   unfolding sizes_in
   slot_at i h =
-      ap (λ v. v.size) (numbered_at _ (length (sizes_in k.variables ss)) i blank_slot (omega (arith, size_count k.variables ss)))
-      ∙ numbered_at (λ i. get_or ss i 0) k.variables i 0 h
+      ap (λ v. v.size) (numbered_at _ (length (sizes_in x.variables x.sizes)) i blank_slot (omega (arith, size_count x.variables x.sizes)))
+      ∙ numbered_at (λ i. get_or x.sizes i 0) x.variables i 0 h
 
   record_same : (i : ℕ) → i < m → m ≤ 64 → read_only (get_or wanted i blank) ≡ get_or lent i blank
   record_same i h l =
-      let a : i < k.variables = omega (arith, t.counted) in
+      let a : i < x.variables = omega (arith, t.counted) in
       let b : i < length ks = omega (arith, t.counted) in
       ap read_only (kinds_at ks slots i (omega (arith, slots_count)) b)
       ∙ ap (λ (n : ℕ). record { writable = 0; size = n; kind = get_or ks i 0 }) (slot_at i a)
-      ∙ ap (λ (n : ℕ). record { writable = 0; size = get_or ss i 0; kind = n }) (sym (t.kind_at i (omega arith) b))
-      ∙ ap (λ (n : ℕ). record { writable = n; size = get_or ss i 0; kind = get_or column i 0 }) (sym (get_or-replicate 64 i 0 0 (omega arith)))
-      ∙ record_at_lem (records_by m (replicate 64 0) ss column) i h
+      ∙ ap (λ (n : ℕ). record { writable = 0; size = get_or x.sizes i 0; kind = n }) (sym (t.kind_at i (omega arith) b))
+      ∙ ap (λ (n : ℕ). record { writable = n; size = get_or x.sizes i 0; kind = get_or column i 0 }) (sym (get_or-replicate 64 i 0 0 (omega arith)))
+      ∙ record_at_lem (records_by m (replicate 64 0) x.sizes column) i h
 
   lent_count : length lent ≡ m
-  lent_count = sym (column_count m (replicate 64 0) ss column)
+  lent_count = sym (column_count m (replicate 64 0) x.sizes column)
 
   records_same : m ≤ 64 → map read_only wanted ≡ lent
   records_same l =
@@ -117,12 +114,10 @@ module _ (k : Known) (ss gs cs fs ks : List ℕ) (m : ℕ) (column : List ℕ) (
           let l : 64 < m = leb-false _ _ o in
           b.unusable lent wanted (unusable_many lent (omega (arith, lent_count))) (unusable_many wanted (omega (arith, wanted_count)))
 
-  module _ (i : ℕ) (signed : Bool) where
-    pub reading_told : (bs : List ℕ) (r : PlainReading) → r ≡ reading_of (records_of (records_by m (replicate 64 0) ss column)) i signed bs
-        → r ≡ reading_of (records_for (table_of k ss gs cs fs) ks) i signed bs
-    reading_told bs r e = e ∙ alike (λ vs. reading_of vs i signed bs) (reading_blind i signed bs)
+  -- r are the records that the code lends
+  module _ (r : Records) (e : r ≡ records_by m (replicate 64 0) x.sizes column) (i : ℕ) (signed : Bool) where
+    pub reading_told : (bs : List ℕ) (y : PlainReading) → y ≡ reading_of (records_of r) i signed bs → y ≡ reading_of (records_for (held_table x) ks) i signed bs
+    reading_told bs y h = h ∙ ap (λ z. reading_of (records_of z) i signed bs) e ∙ alike (λ vs. reading_of vs i signed bs) (reading_blind i signed bs)
 
-    -- z' is the number as the machine has it
-    pub writing_told : (z z' : ℤ) (buffer : List ℕ) (r : PlainBytesLeft) → r ≡ writing_of (records_of (records_by m (replicate 64 0) ss column)) i signed z' buffer → z' ≡ z
-        → r ≡ writing_of (records_for (table_of k ss gs cs fs) ks) i signed z buffer
-    writing_told z z' buffer r e h = e ∙ alike (λ vs. writing_of vs i signed z' buffer) (writing_blind i signed z' buffer) ∙ ap (λ y. writing_of wanted i signed y buffer) h
+    pub writing_told : (z : ℤ) (buffer : List ℕ) (y : PlainBytesLeft) → y ≡ writing_of (records_of r) i signed z buffer → y ≡ writing_of (records_for (held_table x) ks) i signed z buffer
+    writing_told z buffer y h = h ∙ ap (λ w. writing_of (records_of w) i signed z buffer) e ∙ alike (λ vs. writing_of vs i signed z buffer) (writing_blind i signed z buffer)
