@@ -27,16 +27,8 @@ pub extern "C" fn bsmp_ask_packet(
     ensures { let request = named_of code operation number other block in
         plain_asked_left result packet.new ≡ ask_of destination request bytes.now packet.old }
 {
-    gateway::ask(
-        destination,
-        code,
-        operation,
-        number,
-        other,
-        block,
-        bytes,
-        packet,
-    )
+    let request = gateway::request_of(code, operation, number, other, block);
+    gateway::ask(destination, request, bytes, packet)
 }
 
 #[unsafe(no_mangle)]
@@ -54,36 +46,8 @@ pub extern "C" fn bsmp_hear_reply(
     ensures { plain_heard_left result (held_table learned.new)
         ≡ hear_call learned.old destination code operation number other block bytes.now reply.now }
 {
-    let variables = learned.variables;
-    let writable = learned.writable;
-    let groups = learned.groups;
-    let curves = learned.curves;
-    let functions = learned.functions;
-    let done = gateway::hear(
-        variables,
-        writable,
-        groups,
-        curves,
-        functions,
-        &mut learned.sets,
-        &mut learned.shapes,
-        &mut learned.sizes,
-        &mut learned.calls,
-        destination,
-        code,
-        operation,
-        number,
-        other,
-        block,
-        bytes,
-        reply,
-    );
-    learned.variables = done.variables;
-    learned.writable = done.writable;
-    learned.groups = done.groups;
-    learned.curves = done.curves;
-    learned.functions = done.functions;
-    done.heard
+    let request = gateway::request_of(code, operation, number, other, block);
+    gateway::hear(learned, destination, request, bytes, reply)
 }
 
 #[unsafe(no_mangle)]
@@ -94,24 +58,7 @@ pub extern "C" fn bsmp_hear_place(
 ) -> PlainPlace
     ensures { result ≡ place_call learned.now wanted variable }
 {
-    let variables = learned.variables;
-    let writable = learned.writable;
-    let groups = learned.groups;
-    let curves = learned.curves;
-    let functions = learned.functions;
-    gateway_values::place(
-        variables,
-        writable,
-        groups,
-        curves,
-        functions,
-        &learned.sets,
-        &learned.shapes,
-        &learned.sizes,
-        &learned.calls,
-        wanted,
-        variable,
-    )
+    gateway_values::place(learned, wanted, variable)
 }
 
 #[unsafe(no_mangle)]
@@ -123,25 +70,7 @@ pub extern "C" fn bsmp_hear_signed(
 ) -> PlainSignedReading
     ensures { signed_says result ≡ read_call learned.now kinds.now variable true bytes.now }
 {
-    let variables = learned.variables;
-    let writable = learned.writable;
-    let groups = learned.groups;
-    let curves = learned.curves;
-    let functions = learned.functions;
-    gateway_values::read_signed(
-        variables,
-        writable,
-        groups,
-        curves,
-        functions,
-        &learned.sets,
-        &learned.shapes,
-        &learned.sizes,
-        &learned.calls,
-        kinds,
-        variable,
-        bytes,
-    )
+    gateway_values::read_signed(learned, kinds, variable, bytes)
 }
 
 #[unsafe(no_mangle)]
@@ -153,25 +82,7 @@ pub extern "C" fn bsmp_hear_unsigned(
 ) -> PlainUnsignedReading
     ensures { unsigned_says result ≡ read_call learned.now kinds.now variable false bytes.now }
 {
-    let variables = learned.variables;
-    let writable = learned.writable;
-    let groups = learned.groups;
-    let curves = learned.curves;
-    let functions = learned.functions;
-    gateway_values::read_unsigned(
-        variables,
-        writable,
-        groups,
-        curves,
-        functions,
-        &learned.sets,
-        &learned.shapes,
-        &learned.sizes,
-        &learned.calls,
-        kinds,
-        variable,
-        bytes,
-    )
+    gateway_values::read_unsigned(learned, kinds, variable, bytes)
 }
 
 #[unsafe(no_mangle)]
@@ -184,26 +95,7 @@ pub extern "C" fn bsmp_ask_signed(
 ) -> u8
     ensures { plain_bytes_left result buffer.new ≡ write_call learned.now kinds.now variable true number buffer.old }
 {
-    let variables = learned.variables;
-    let writable = learned.writable;
-    let groups = learned.groups;
-    let curves = learned.curves;
-    let functions = learned.functions;
-    gateway_values::write_signed(
-        variables,
-        writable,
-        groups,
-        curves,
-        functions,
-        &learned.sets,
-        &learned.shapes,
-        &learned.sizes,
-        &learned.calls,
-        kinds,
-        variable,
-        number,
-        buffer,
-    )
+    gateway_values::write(learned, kinds, variable, number, buffer)
 }
 
 #[unsafe(no_mangle)]
@@ -216,24 +108,5 @@ pub extern "C" fn bsmp_ask_unsigned(
 ) -> u8
     ensures { plain_bytes_left result buffer.new ≡ write_call learned.now kinds.now variable false (pos number) buffer.old }
 {
-    let variables = learned.variables;
-    let writable = learned.writable;
-    let groups = learned.groups;
-    let curves = learned.curves;
-    let functions = learned.functions;
-    gateway_values::write_unsigned(
-        variables,
-        writable,
-        groups,
-        curves,
-        functions,
-        &learned.sets,
-        &learned.shapes,
-        &learned.sizes,
-        &learned.calls,
-        kinds,
-        variable,
-        number,
-        buffer,
-    )
+    gateway_values::write(learned, kinds, variable, number, buffer)
 }
