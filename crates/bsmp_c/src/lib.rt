@@ -33,7 +33,8 @@ pub extern "C" fn bsmp_packet(
         plain_packet_left result groups.new reply.new values.new blocks.new lengths.new sums.new
         ≡ packet_of board own multicast busy request.now reply.old }
 {
-    let records = columns::taken(variables);
+    let mut records = columns::BLANK;
+    columns::take(variables, &mut records);
     plain::packet(
         &records, curves, functions, groups, own, multicast, busy, values, blocks, lengths, sums,
         request, reply,
@@ -61,7 +62,8 @@ pub extern "C" fn bsmp_function_result(
         groups.now values.now blocks.now lengths.now sums.now in
         plain_result_left result reply.new ≡ result_of board function due failed error output.now reply.old }
 {
-    let records = columns::taken(variables);
+    let mut records = columns::BLANK;
+    columns::take(variables, &mut records);
     let board = Board {
         records: &records,
         curves,
@@ -92,7 +94,8 @@ pub extern "C" fn bsmp_board_store(
         groups.now values.old blocks.now lengths.now sums.now in
         plain_bytes_left result values.new ≡ store_of board variable bytes.now }
 {
-    let records = columns::taken(variables);
+    let mut records = columns::BLANK;
+    columns::take(variables, &mut records);
     plain::board_store(
         &records, curves, functions, groups, values, blocks, lengths, sums, variable, bytes,
     )
@@ -113,7 +116,8 @@ pub extern "C" fn bsmp_fresh_board(
         groups.now values.now blocks.now lengths.old sums.old in
         plain_fresh_left result lengths.new sums.new ≡ fresh_of board }
 {
-    let records = columns::taken(variables);
+    let mut records = columns::BLANK;
+    columns::take(variables, &mut records);
     plain::fresh_board(
         &records, curves, functions, groups, values, blocks, lengths, sums,
     )

@@ -10,6 +10,14 @@ use records::Records;
 // The places of a column.
 const PLACES: usize = 64;
 
+// No records, in columns of zeros.
+pub const BLANK: Records = Records {
+    count: 0,
+    writable: [0; 64],
+    sizes: [0; 64],
+    kinds: [0; 64],
+};
+
 // One record at its place of each column.
 #[inline(always)]
 fn store(records: &mut Records, i: usize, v: Variable)
@@ -41,16 +49,12 @@ pub fn take(variables: &[Variable], records: &mut Records)
     }
 }
 
-// The lent records in columns of their own.
+// The lent records in columns of their own, for a call on numbers. The calls on a whole board lend columns to `take`: given back, they were copied there, and a packet
+// took 192 bytes of stack more, past the limit (ctest/stack.c).
 pub fn taken(variables: &[Variable]) -> Records
     ensures { result ≡ columns_of variables.now }
 {
-    let mut records = Records {
-        count: 0,
-        writable: [0; 64],
-        sizes: [0; 64],
-        kinds: [0; 64],
-    };
+    let mut records = BLANK;
     take(variables, &mut records);
     records
 }

@@ -11,4 +11,4 @@ returns c =
     let a = c.args in
     let board : Lending = lending a.variables.now a.curves.now a.functions.now a.groups.now a.values.now a.blocks.now a.lengths.now a.sums.now in
     of_lent (λ (vs : List Variable). store_of (with_variables vs board) a.variable a.bytes.now) a.variables.now
-    (store_same board a.variable a.bytes.now) _ _ c.board_store.ensures c.taken-records.ensures
+    (store_same board a.variable a.bytes.now) _ _ c.board_store.ensures c.take.ensures

@@ -11,4 +11,4 @@ returns c =
     let a = c.args in
     let board : Lending = lending a.variables.now a.curves.now a.functions.now a.groups.now a.values.now a.blocks.now a.lengths.now a.sums.now in
     of_lent (λ (vs : List Variable). fresh_of (with_variables vs board)) a.variables.now
-    (fresh_same board) _ _ c.fresh_board.ensures c.taken-records.ensures
+    (fresh_same board) _ _ c.fresh_board.ensures c.take.ensures

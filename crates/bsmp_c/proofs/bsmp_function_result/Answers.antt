@@ -11,4 +11,4 @@ returns c =
     let a = c.args in
     let board : Lending = lending a.variables.now a.curves.now a.functions.now a.groups.now a.values.now a.blocks.now a.lengths.now a.sums.now in
     of_lent (λ (vs : List Variable). result_of (with_variables vs board) a.function a.due a.failed a.error a.output.now a.reply.now) a.variables.now
-    (result_same board a.function a.due a.failed a.error a.output.now a.reply.now) _ _ c.function_result.ensures c.taken-records.ensures
+    (result_same board a.function a.due a.failed a.error a.output.now a.reply.now) _ _ c.function_result.ensures c.take.ensures

@@ -11,4 +11,4 @@ returns c =
     let a = c.args in
     let board : Lending = lending a.variables.now a.curves.now a.functions.now a.groups.now a.values.now a.blocks.now a.lengths.now a.sums.now in
     of_lent (λ (vs : List Variable). packet_of (with_variables vs board) a.own a.multicast a.busy a.request.now a.reply.now) a.variables.now
-    (packet_same board a.own a.multicast a.busy a.request.now a.reply.now) _ _ c.packet.ensures c.taken-records.ensures
+    (packet_same board a.own a.multicast a.busy a.request.now a.reply.now) _ _ c.packet.ensures c.take.ensures
