@@ -168,8 +168,6 @@ module _ {A : Type 0} (f : A → Bool) (xs : List A) (m : ℕ) where
   pub each_passes : (k : ℕ) → k ≡ length xs → k ≤ m → every f xs ≡ true → true ≡ (leb (length xs) m && every f xs)
   each_passes k e l h = rw (← e, le-leb k m l, h)
 
-pub ruleset counted = (too_many, one_broken, each_passes)
-
 -- a set's members are declared where nothing is left of it past the last variable
 module _ (m n : ℕ) where
   pub group_any : 0 < m → 64 ≤ n → m < 2 ^ 64 → leb 64 n ≡ usable_group n m
