@@ -57,7 +57,8 @@ fn run(payload: &[u8]) -> Spoken
     }
 }
 
-// What a command that passed is answered, out of the state after it; a payload goes into the reply from `at` on.
+// What a command that passed is answered, out of the state after it; a payload goes into the reply from `at` on. All below write at a place of the
+// whole buffer, as what they promise says it (`PayloadAt`), so reply and place go as two.
 #[tactic(auto, using(crate::proofs::Answers::answer_told, crate::proofs::Answers::answer_done, crate::proofs::Answers::answer_run), unfolding(bsmp::specs::Message::line, bsmp::specs::Message::spoken, bsmp::specs::Message::variable_list, bsmp::specs::Message::group_list, bsmp::specs::Message::curve_list, bsmp::specs::Message::function_list, bsmp::specs::Board::members, bsmp::specs::Board::writable_group))]
 pub fn answer(
     command: Command,

@@ -95,7 +95,7 @@ pub fn is_address(destination: u8) -> bool
 
 // What a reply says, by places in it: an error; that it is done; 02 14 00; so many records of a list, members of a group, or bytes of values
 // or of a function's output, from place 4 on; so many bytes of a block, from place 7 on; the 16 bytes of a sum, from place 4 on; a function's
-// error byte.
+// error byte. Error and Failed are things that a reply says; what can't be read is no value of this type.
 #[derive(Clone, Copy)]
 pub enum Told {
     Error(WireError),

@@ -33,6 +33,7 @@ fn removal(groups: &[u64]) -> Regroup
     Regroup::Remove
 }
 
+// Operation, payload and front go as three, here and in `variables` and `groups`: 01's row of the command fixes two of them.
 // The variable named first is changed by the bytes behind the front; the made groups stay.
 fn change_one(
     sizes: &[u8],

@@ -153,7 +153,7 @@ pub fn tell(
     3 + size
 }
 
-// 0A and 42, whose tests are the same: a curve, and nothing else.
+// 0A and 42, whose tests are the same: a curve, and nothing else. The checks stay apart, as 01 has them: each in the order of its row.
 #[tactic(auto, unfolding(bsmp::specs::Message::check, bsmp::specs::Message::line, bsmp::specs::Base::first))]
 pub fn check_sum(curves: &[u32], payload: &[u8]) -> Result<(), WireError>
     ensures { result ≡ check (curves_only (curves_of curves.now)) [] 0 payload.now ReadSum }

@@ -21,7 +21,7 @@ pub struct PlainOutcome {
     pub length: usize,
 }
 
-// Bytes to number: refusal 0 and the number, or 01's number of the refusal and 0.
+// Bytes to number: refusal 0 and the number, or 01's number of the refusal and 0. One struct for each sort of number, as C has them.
 #[repr(C)]
 #[derive(Clone, Copy)]
 pub struct PlainSignedReading {
@@ -129,7 +129,7 @@ impl From<Result<u64, Refusal>> for PlainUnsignedReading {
     }
 }
 
-// How a function ran: an error byte counts only where it failed.
+// How a function ran: an error byte counts only where it failed. C hands in a flag, and both.
 pub fn ran_of(failed: bool, error: u8, output: &[u8]) -> Result<&[u8], u8>
     ensures { ran_of result ≡ ran_from failed error output.now }
 {

@@ -1,4 +1,4 @@
-// The asking side in plain numbers: a request by its code and the numbers that it names, a table by its counts and places.
+// The asking side in plain numbers: a request by its code and the numbers that it names, what is written and heard by kinds and places.
 #![tactic(auto)]
 
 ghost use Rattle.std.specs.Prelude.{◌≡◌};

@@ -1,5 +1,6 @@
 // The commands of groups: which error each meets, what a write changes, what the answers tell. Every check has the same parameters,
-// also those that it doesn't look at, and no check sees a value.
+// also those that it doesn't look at, and no check sees a value. They take sizes, marks and sets, and no layout with curves and functions in it: so a
+// contract shows what plays no part.
 #![tactic(auto)]
 
 ghost use Rattle.std.specs.Prelude.{◌≡◌, false, cond, Ok, Err, [], ◌∷◌, ◌++◌, map, ◌+◌, ◌≤◌, ◌<◌, length, drop};
@@ -151,6 +152,7 @@ pub fn check_mask(
 
 // What a walk over a new group's IDs finds: whether one names no variable, whether they ascend; the next may be no less than `least`.
 // This is of 16 bits, since the compiler takes 16 IDs at once, and keeps them on the stack of every packet if they are wider.
+// The flags are the state of a walk without branches: no value hangs on one.
 #[derive(Clone, Copy)]
 struct Ids {
     unknown: bool,

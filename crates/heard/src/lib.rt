@@ -14,6 +14,7 @@ ghost use Rattle.learned.specs.Answered.{answered};
 use asking::Told;
 use bsmp::{CurveNumber, FunctionNumber, GroupNumber, Refusal, VariableNumber};
 
+// Each answer with its own code, test and word, as 01's table has them.
 // E0.
 #[tactic(auto, unfolding(asking::specs::Reply::answers, asking::specs::Reply::tells))]
 pub fn done(code: u8, payload: &[u8]) -> Result<Told, Refusal>

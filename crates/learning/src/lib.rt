@@ -14,6 +14,7 @@ use asking::{Request, Told};
 use bsmp::{GroupNumber, Refusal};
 use learned::LearnedTable;
 
+// The lists into their places, by number: each reads and writes in steps of its own.
 // The sizes of list 03, each into its place.
 fn take_sizes(list: &[u8], sizes: &mut [u8])
     requires { length list.now ≤ length sizes.old }

@@ -13,6 +13,7 @@ ghost use Rattle.listed.specs.Listed.{curve_in};
 use asking::Told;
 use bsmp::{Curve, GroupNumber, Refusal};
 
+// Five answers of one shape, each with its own code, test and word, as 01's table has them.
 // 03: whole records within the limits.
 #[tactic(auto, unfolding(asking::specs::Reply::answers, asking::specs::Reply::tells), using(crate::proofs::Fitting::listed))]
 pub fn variables(code: u8, payload: &[u8]) -> Result<Told, Refusal>

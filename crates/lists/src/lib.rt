@@ -15,7 +15,8 @@ pub fn byte_sum(bytes: &[u8]) -> u8
     bytes.iter().fold(0, |sum, byte| sum.wrapping_add(*byte))
 }
 
-// The sum of the first n sizes.
+// The sum of the first n sizes. That there are 64 at most stands as a clause, here and wherever sizes are lent: a slice holds no invariant, and a
+// struct around it would be made for each message.
 pub fn offset(sizes: &[u8], n: usize) -> usize
     requires { (n ≤ length sizes.now) × (length sizes.now ≤ 64) }
     ensures { result ≡ sum (take n sizes.now) }

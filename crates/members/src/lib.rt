@@ -173,7 +173,7 @@ pub fn change_members(
     }
 }
 
-// The numbers of the first variables, a byte each, into the reply from `at` on.
+// The numbers of the first variables, a byte each, into the reply from `at` on. How many variables there are is all that it needs of them.
 fn list_all(count: usize, reply: &mut [u8], at: usize)
     requires { (count ≤ 64) × (at + 64 ≤ length reply.old) }
     ensures { reply.new ≡ put reply.old at (up_from 0 count) }

@@ -37,7 +37,7 @@ fn regroup(groups: &mut Groups, r: Regroup)
     }
 }
 
-// What is said to a message, closed in its packet; or the function that is to be run; or silence.
+// What is said to a message, closed in its packet; or the function that is to be run; or silence. Whether an answer is due is what the packet says.
 fn close(due: bool, said: Spoken, reply: &mut [u8]) -> Outcome
     requires { Closable said reply.old }
     ensures { Closed due said reply.old result reply.new }
@@ -91,7 +91,7 @@ fn answer(
     Received { outcome, regroup }
 }
 
-// A packet on a board that was tested. Own address, multicast byte and busy marks are used here only.
+// A packet on a board that was tested, before its stores were lent to be changed. Own address, multicast byte and busy marks are used here only.
 fn receive(
     tested: bool,
     records: &Records,

@@ -6,7 +6,7 @@ ghost use Rattle.std.specs.Int.Signed.{mag};
 ghost use Rattle.bsmp.specs.Number.{little, little_bytes, turned, meant, in_range, unsigned_of, number_of, bytes_of};
 ghost use Rattle.numbers.specs.Size.{is_size, largest_of, half_of, place_of};
 
-// Where, among n bytes, the one of weight 256 to the i stands.
+// Where, among n bytes, the one of weight 256 to the i stands. `big` is a value here and no type: a variable's kind says it when it is read.
 fn place(i: usize, n: usize, big: bool) -> usize
     requires { i < n }
     ensures { result ≡ place_of big n i }
@@ -14,7 +14,8 @@ fn place(i: usize, n: usize, big: bool) -> usize
     if big { n - 1 - i } else { i }
 }
 
-// The bytes as an unsigned number, from the most significant down.
+// The bytes as an unsigned number, from the most significant down. Not by the library's from_le_bytes, which takes an array: how many bytes there
+// are is known when the number is read.
 pub fn unsigned_of(bytes: &[u8], big: bool) -> u64
     requires { length bytes.now ≤ 8 }
     ensures { result ≡ little (turned big bytes.now) }
@@ -39,7 +40,7 @@ pub fn write_bytes(u: u64, big: bool, out: &mut [u8])
     }
 }
 
-// The largest unsigned number of the size.
+// The largest unsigned number of the size. That it is a size stands as a clause here and below: a type of sizes would be made and taken apart for each call.
 fn largest(size: usize) -> u64
     requires { is_size size ≡ true }
     ensures { result ≡ largest_of size }

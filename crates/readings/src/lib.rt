@@ -29,7 +29,7 @@ fn is_big(kind: Kind) -> bool
     }
 }
 
-// Refusals 1, 9, 11 and 10, in this order: the tests that all readings have. A variable that passes them holds such a number, big endian or not.
+// Refusals 1, 9, 11 and 10, in this order: the tests that all readings have, once for both sorts of number, so `signed` is a value. A variable that passes them holds such a number, big endian or not.
 fn judge(
     records: &Records,
     variable: VariableNumber,

@@ -74,7 +74,8 @@ pub fn marks_of(types: &[u8]) -> u64
     marks
 }
 
-// How many curve records are lent, a broken one at the end included. Not by `div_ceil`, which the portable edition's oldest Rust lacks.
+// How many curve records are lent, a broken one at the end included. Curves and functions have their own count and record each: three numbers
+// of 32 bits and two bytes, and a broken record of each reads otherwise. Not by `div_ceil`, which the portable edition's oldest Rust lacks.
 #[tactic(auto, using(crate::proofs::Lending::curve_count))]
 pub fn curve_count(curves: &[u32]) -> usize
     ensures { result ≡ length (curves_of curves.now) }
@@ -103,7 +104,8 @@ pub fn curve_at(curves: &[u32], c: CurveNumber) -> Curve
     }
 }
 
-// Where curve c starts: all blocks of the curves before it, and their bytes.
+// Where curve c starts: all blocks of the curves before it, and their bytes. That the curves are usable stands as a clause, here and in `boards`
+// and `sums`: what is lent is a slice, which holds no invariant.
 pub fn curve_start(curves: &[u32], c: CurveNumber) -> Start
     requires { (usable_curves (curves_of curves.now) ≡ true) × (c.0 ≤ length (curves_of curves.now)) }
     ensures { result ≡ start_of (take c.0 (curves_of curves.now)) }

@@ -91,7 +91,7 @@ pub fn function_result(
     }
 }
 
-// Refusals 1, 9, 10, in this order.
+// Refusals 1, 9, 10, in this order: a chain for each call, since they share its first test only.
 #[tactic(auto, using(crate::proofs::Storing::size_count, crate::proofs::Storing::size_at_lem, crate::proofs::Storing::size_inside), unfolding(bsmp::specs::Base::first, bsmp::specs::Board::faults))]
 fn judge_store(board: &Board, variable: VariableNumber, bytes: &[u8]) -> Result<(), Refusal>
     ensures { let table = table_lent board.now in
@@ -111,6 +111,7 @@ fn judge_store(board: &Board, variable: VariableNumber, bytes: &[u8]) -> Result<
     Ok(())
 }
 
+// Below, what is lent comes one by one, since a part of it is written: `Board` lends all of it to be read.
 // The board's own store of a new value, into any variable, read-only or busy too. Only that variable's bytes change.
 pub fn board_store(
     records: &Records,

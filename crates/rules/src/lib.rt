@@ -100,7 +100,8 @@ pub fn usable_curves(curves: &[u32]) -> Option<CurveTotal>
     })
 }
 
-// The lengths of blocks of one size, without branches, so that the compiler tests many at once.
+// The lengths of blocks of one size, without branches, so that the compiler tests many at once. By `for`: of a fold's closure that holds the size
+// there is no proof.
 #[tactic(auto, using(crate::proofs::Lengths::fitting_next, crate::proofs::Lengths::fitting_end))]
 pub fn fitting(lengths: &[u16], size: u16) -> bool
     ensures { result ≡ every (within 1 size) lengths.now }

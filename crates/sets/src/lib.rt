@@ -51,6 +51,7 @@ pub fn count_marks(set: u64) -> usize
     set.count_ones() as usize
 }
 
+// A line each for all and for some, since they promise different words.
 // Whether all members of a set are marked.
 #[tactic(auto, using(crate::proofs::AtOnce::and_all))]
 pub fn all_marked(set: u64, marks: u64) -> bool

@@ -66,6 +66,7 @@ impl<'a> Content<'a> {
     }
 }
 
+// Curves, stores and lengths come one by one, since the sums are written beside them.
 // 42: the sum of a curve, worked out anew from what the curve holds. The others' sums stay.
 pub fn renew(curves: &[u32], blocks: &[u8], lengths: &[u16], sums: &mut [u8], c: CurveNumber)
     requires sound_curves { SoundCurves (curves_of curves.now) blocks.now × SoundLengths (curves_of curves.now) lengths.now }

@@ -53,6 +53,7 @@ pub fn open(packet: &[u8], own: u8, multicast: u8, room: usize) -> Result<bool, 
     Err(Refusal::NotForThisBoard)
 }
 
+// That the buffer has room for a packet stands as a clause, here and above: what is lent is a slice, which holds no invariant.
 // Closes a packet whose payload of `size` bytes stands at 4; answers the packet's length. The head is added to the payload's
 // sum and not read back, since bytes just stored are slow to load.
 pub fn close(packet: &mut [u8], destination: u8, code: u8, size: usize) -> usize
