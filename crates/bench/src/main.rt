@@ -108,7 +108,7 @@ fn first(records: &[u8]) -> Option<&[u8]>
     rest.get(..u16::from_be_bytes([*high, *low]) as usize)
 }
 
-// The lines that wait to be written.
+// The lines that wait to be written. No heap is used, so there is room for so many bytes, and how many are used.
 #[derive(Drop)]
 struct Lines {
     bytes: [u8; 131072],

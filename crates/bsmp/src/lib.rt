@@ -17,7 +17,8 @@ pub struct CurveNumber(pub usize);
 #[derive(Clone, Copy)]
 pub struct FunctionNumber(pub usize);
 
-// A variable's record as a board lends it: writable 0 or 1, size in bytes, kind by its number.
+// A variable's record as a board lends it: writable 0 or 1, size in bytes, kind by its number. It is the C interface's record; what a kind's
+// number means is `Kind::from`.
 #[repr(C)]
 #[derive(Clone, Copy)]
 pub struct Variable {

@@ -9,7 +9,7 @@ ghost use Rattle.endings.specs.Numbers.{ran_from, plain_outcome_of, done_number,
 use bsmp::{Outcome, Refusal};
 
 // How a call ends: kind 0 a reply of `length` bytes, 1 silence, 2 a function to be run with `length` bytes of input from place
-// `input` of the packet on, 3 a local refusal with 01's number. What a kind has no use for is 0.
+// `input` of the packet on, 3 a local refusal with 01's number. What a kind has no use for is 0. It is the C interface's struct.
 #[repr(C)]
 #[derive(Clone, Copy)]
 pub struct PlainOutcome {

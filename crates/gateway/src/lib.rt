@@ -9,7 +9,7 @@ use asking::{Masking, Request, Told};
 use bsmp::{Command, CurveNumber, FunctionNumber, GroupNumber, Refusal, VariableNumber};
 use learned::LearnedTable;
 
-// How writing a request ended: refusal 0 and its length, or 01's or 02's number of the refusal and 0.
+// How writing a request ended: refusal 0 and its length, or 01's or 02's number of the refusal and 0. It is the C interface's struct, as the next is.
 #[repr(C)]
 #[derive(Clone, Copy)]
 pub struct PlainAsked {

@@ -16,7 +16,7 @@ use learned::{Known, LearnedTable};
 use numbers::Number;
 use records::Records;
 
-// Where a variable's bytes stand in a reply: refusal 0, its place and its length; or the refusal, and 0.
+// Where a variable's bytes stand in a reply: refusal 0, its place and its length; or the refusal, and 0. It is the C interface's struct.
 #[repr(C)]
 #[derive(Clone, Copy)]
 pub struct PlainPlace {

@@ -101,6 +101,8 @@ impl Iterator for RunWalk<'_> {
         let mut i = self.i;
         let mut at = self.at;
         let mut rest = self.rest;
+        // variable by variable, since the sizes that are passed are added up on the way: to count the marks at once and then walk over the sizes takes
+        // longer for short gaps
         while rest % 2 == 0 {
             at += usize::from(self.sizes[i]);
             i += 1;
