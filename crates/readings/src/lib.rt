@@ -30,6 +30,7 @@ fn is_big(kind: Kind) -> bool
 }
 
 // Refusals 1, 9, 11 and 10, in this order: the tests that all readings have, once for both sorts of number, so `signed` is a value. A variable that passes them holds such a number, big endian or not.
+#[tactic(auto, using(crate::proofs::Tests::judge_unusable, crate::proofs::Tests::judge_unknown, crate::proofs::Tests::judge_kind, crate::proofs::Tests::judge_count, crate::proofs::Tests::judge_good))]
 fn judge(
     records: &Records,
     variable: VariableNumber,
