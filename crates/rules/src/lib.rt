@@ -126,12 +126,18 @@ pub fn usable_functions(functions: &[u8]) -> bool
 }
 
 // Whether a set has members, and only declared ones: none is left past the last variable. With 64 variables, which is too far
-// to shift, each of its marks is declared.
+// to shift, each of its marks is declared. Test by test, so that where there are 64 no set is shifted: as one condition the compiler shifts them all.
 #[tactic(auto, using(crate::proofs::Checks::group_any, crate::proofs::Checks::group_declared))]
 fn usable_group(set: u64, variables: usize) -> bool
     ensures { result ≡ (ltb 0 set && ltb set (2 ^ variables)) }
 {
-    0 < set && (64 <= variables || set >> variables == 0)
+    if set < 1 {
+        return false;
+    }
+    if 64 <= variables {
+        return true;
+    }
+    set >> variables == 0
 }
 
 // The rules of the made groups.
