@@ -94,6 +94,8 @@ impl Iterator for RunWalk<'_> {
 
     ghost remaining = { λ s. at_most (length s.sizes.now - s.i) };
 
+    // Within the loops that walk it: as a function that both call, a read of every other of 64 variables took a seventh more instructions.
+    #[inline(always)]
     fn next(&mut self) -> Option<Run> {
         if self.rest == 0 {
             return None;
