@@ -10,7 +10,7 @@ use lib.Dec.{leb, ltb, eqb, lit<}
 use lib.ListN.{length, get_or}
 use mir.Syntax.{w8, w32}
 use mir.Val.{Fits}
-use borrow.Author.Tests.{le-ltb, lt-ltb, lt-leb, le-leb, ne_eqb, ltb-true, ltb-false, leb-true, not-false}
+use borrow.Author.Tests.{lt-ltb, lt-leb, le-leb, ne_eqb, ltb-true, ltb-false, leb-true, not-false}
 use Rattle.bsmp.specs.Base.{sum, up_from, all, every, some, within}
 use Rattle.bsmp.specs.Codes.{kind_of}
 use Rattle.bsmp.specs.Board.{fits_kind, sizes_of, usable_variable, variable_rules, usable_variables, usable_curve, curve_rules, usable_curves}
@@ -170,16 +170,13 @@ module _ {A : Type 0} (f : A → Bool) (xs : List A) (m : ℕ) where
 
 -- a set's members are declared where nothing is left of it past the last variable
 module _ (m n : ℕ) where
-  pub group_empty : m < 1 → false ≡ usable_group n m
-  group_empty h = rw (le-ltb 0 m (omega arith))
-
-  pub group_any : 1 ≤ m → 64 ≤ n → m < 2 ^ 64 → true ≡ usable_group n m
+  pub group_any : 0 < m → 64 ≤ n → m < 2 ^ 64 → leb 64 n ≡ usable_group n m
   group_any a h l =
       let p : 2 ^ 64 ≤ 2 ^ n = pow-le-pow_right (lit< tt) h in
-      rw (lt-ltb 0 m (omega arith), lt-ltb m (2 ^ n) (lt_of_lt_of_le l p))
+      rw (le-leb 64 n h, lt-ltb 0 m a, lt-ltb m (2 ^ n) (lt_of_lt_of_le l p))
 
-  pub group_declared : 1 ≤ m → eqb (m / 2 ^ n) 0 ≡ usable_group n m
-  group_declared a = rw (lt-ltb 0 m (omega arith)) (by (ltb m (2 ^ n)) refl)
+  pub group_declared : 0 < m → eqb (m / 2 ^ n) 0 ≡ usable_group n m
+  group_declared a = rw (lt-ltb 0 m a) (by (ltb m (2 ^ n)) refl)
     where
       by : (b : Bool) → ltb m (2 ^ n) ≡ b → eqb (m / 2 ^ n) 0 ≡ b
       by true e = rw (div-eq_of_lt (ltb-true m (2 ^ n) e))

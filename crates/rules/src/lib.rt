@@ -63,24 +63,11 @@ pub fn usable_records(records: &Records) -> Option<u32>
     (bytes <= 4096).then_some(bytes)
 }
 
-// The rules of one curve record. One test after another, here and in `usable_group`: as one condition each record takes some seven instructions
-// more.
+// The rules of one curve record.
 pub fn usable_curve(c: Curve) -> bool
     ensures { result ≡ usable_curve c }
 {
-    if 1 < c.writable {
-        return false;
-    }
-    if c.size < 1 {
-        return false;
-    }
-    if 4096 < c.size {
-        return false;
-    }
-    if c.blocks < 1 {
-        return false;
-    }
-    c.blocks <= 65536
+    c.writable <= 1 && 1 <= c.size && c.size <= 4096 && 1 <= c.blocks && c.blocks <= 65536
 }
 
 // The rules of the curve records, and what their blocks add up to if they are kept; each is tested before it counts, so that the sum fits. A
@@ -139,8 +126,8 @@ pub fn usable_functions(functions: &[u8]) -> bool
 }
 
 // Whether a set has members, and only declared ones: none is left past the last variable. With 64 variables, which is too far
-// to shift, each of its marks is declared.
-#[tactic(auto, using(crate::proofs::Checks::group_empty, crate::proofs::Checks::group_any, crate::proofs::Checks::group_declared))]
+// to shift, each of its marks is declared. Test by test, so that where there are 64 no set is shifted: as one condition the compiler shifts them all.
+#[tactic(auto, using(crate::proofs::Checks::group_any, crate::proofs::Checks::group_declared))]
 fn usable_group(set: u64, variables: usize) -> bool
     ensures { result ≡ (ltb 0 set && ltb set (2 ^ variables)) }
 {
