@@ -6,7 +6,8 @@ use native.Mathlib.Omega.{arith}
 use lib.ListN.{length, take, drop, set, get_or, replicate, length-append, length-replicate}
 use lib.Seq.{drop-drop, take-nil, take-append-le, take-append-add}
 use Rattle.bsmp.specs.Base.{sum, cut}
-use Rattle.lists.proofs.Sum.{total_append, total_within}
+use Rattle.bsmp.proofs.Lists.{sum_append}
+use Rattle.lists.proofs.Sum.{total_within}
 use Rattle.copies.specs.Put.{put, part}
 use Rattle.copies.proofs.Put.{put_put, put_same, part_put_past, length_put, length_part}
 use Rattle.lists.proofs.Pieces.{value_part, cut_put}
@@ -51,4 +52,4 @@ take_replicate (suc k) (suc n) x h = ap (λ (l : List ℕ). x ∷ l) (take_repli
 pub block_start : (before rest : List ℕ) (k n x : ℕ) → k ≤ n → sum (take (length before + k) (before ++ (replicate n x ++ rest))) ≡ sum before + k * x
 block_start before rest k n x h =
     let l : k ≤ length (replicate n x) = rw (length-replicate n x) h in
-    rw (take-append-add, take-append-le k (replicate n x) rest, take_replicate k n x h, total_append, sum_replicate)
+    rw (take-append-add, take-append-le k (replicate n x) rest, take_replicate k n x h, sum_append, sum_replicate)

@@ -1,11 +1,12 @@
 -- Sums of lists, with the laws that callers cite. Assumes nothing.
 use mathlib.Core.Path.{◌≡◌, refl, ◌∙◌}
-use mathlib.Core.List.{List, [], ◌∷◌, ◌++◌}
+use mathlib.Core.List.{List, [], ◌∷◌}
 use Prim.Native.Nat.{ℕ, zero, suc, ◌+◌, ◌%◌, ◌≤◌, ◌<◌}
 use native.Mathlib.Numerals.{add-one}
 use native.Mathlib.Omega.{arith}
 use lib.ListN.{length, take, drop, get_or}
 use Rattle.bsmp.specs.Base.{sum}
+use Rattle.bsmp.proofs.Lists.{sum_append}
 use Rattle.std.specs.Prelude.{fold}
 use lib.Seq.{take-suc, drop-cons}
 
@@ -17,11 +18,6 @@ pub total_cons : (x : ℕ) (xs : List ℕ) → sum (x ∷ xs) ≡ x + sum xs
 unfolding sum
 total_cons x xs = refl
 
-pub total_append : (xs ys : List ℕ) → sum (xs ++ ys) ≡ sum xs + sum ys
-unfolding sum
-total_append [] ys = omega arith
-total_append (x ∷ xs) ys = omega (arith, total_append xs ys)
-
 -- what is left from i on: its first, and what is left from i + 1 on
 pub total_drop : (l : List ℕ) (i : ℕ) → i < length l → sum (drop i l) ≡ get_or l i 0 + sum (drop (i + 1) l)
 total_drop l i h = rw (add-one, drop-cons l i 0, total_cons)
@@ -29,7 +25,7 @@ total_drop l i h = rw (add-one, drop-cons l i 0, total_cons)
 -- one more
 pub total_take : (l : List ℕ) (i : ℕ) → i < length l → sum (take (i + 1) l) ≡ sum (take i l) + get_or l i 0
 unfolding sum
-total_take l i h = rw (add-one, take-suc l i 0, total_append) (omega arith)
+total_take l i h = rw (add-one, take-suc l i 0, sum_append) (omega arith)
 
 pub total_split : (l : List ℕ) (n : ℕ) → sum (take n l) + sum (drop n l) ≡ sum l
 unfolding sum

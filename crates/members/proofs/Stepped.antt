@@ -13,7 +13,8 @@ use lib.Seq.{take-add}
 use borrow.Author.Tests.{eq-eqb, ltb-true, ltb-false}
 use Rattle.std.proofs.lemmas.Nat.{shr_below}
 use Rattle.bsmp.specs.Base.{sum, has}
-use Rattle.lists.proofs.Sum.{total_append, total_take, total_split}
+use Rattle.bsmp.proofs.Lists.{sum_append}
+use Rattle.lists.proofs.Sum.{total_take, total_split}
 use Rattle.sets.specs.Promises.{Lowest}
 use Rattle.members.specs.Walked.{StartOf, RunOf}
 
@@ -31,7 +32,7 @@ has_no m k e = rw e
 pub take_grows : (ns : List ℕ) (i j : ℕ) → i ≤ j → sum (take i ns) ≤ sum (take j ns)
 take_grows ns i j h =
     let k : j ≡ i + (j - i) = omega arith in
-    let e : sum (take j ns) ≡ sum (take i ns) + sum (take (j - i) (drop i ns)) = ap (λ x. sum (take x ns)) k ∙ rw (take-add, total_append) in
+    let e : sum (take j ns) ≡ sum (take i ns) + sum (take (j - i) (drop i ns)) = ap (λ x. sum (take x ns)) k ∙ rw (take-add, sum_append) in
     omega arith
 
 -- where a walk begins

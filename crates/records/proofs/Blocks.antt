@@ -13,8 +13,9 @@ use Rattle.bsmp.specs.Base.{sum}
 use Rattle.bsmp.specs.Board.{blank_curve, block_sizes, usable_curves}
 use Rattle.bsmp.specs.Store.{start}
 use Rattle.bsmp.specs.declared.Curve.{Curve}
+use Rattle.bsmp.proofs.Lists.{sum_append}
 use Rattle.bsmp.proofs.Store.{curve_bytes_lem}
-use Rattle.lists.proofs.Sum.{total_append, total_within}
+use Rattle.lists.proofs.Sum.{total_within}
 use Rattle.lists.proofs.Blocks.{block_start}
 use Rattle.records.specs.Lending.{curve_bytes, curve_blocks}
 use Rattle.records.proofs.Sound.{curves_small, blocks_small}
@@ -25,7 +26,7 @@ module _ (g : Curve → ℕ) where
   total cs = sum (map g cs)
 
   parts : (xs ys : List Curve) → total (xs ++ ys) ≡ total xs + total ys
-  parts xs ys = ap sum (map-append g xs ys) ∙ total_append (map g xs) (map g ys)
+  parts xs ys = ap sum (map-append g xs ys) ∙ sum_append (map g xs) (map g ys)
 
   module _ (cs : List Curve) (n i s : ℕ) (x : Curve) (l : n ≤ length cs) (h : i < n) (e : x ≡ get_or cs i blank_curve) (q : s ≡ total (take i cs)) where
     next : s + g x ≡ total (take (i + 1) cs)
