@@ -13,10 +13,11 @@ use lib.Seq.{get_or-drop, drop-length}
 use mir.Syntax.{w8, w64}
 use mir.Val.{Fits}
 use Rattle.bsmp.specs.Number.{little, little_bytes, turned}
+use Rattle.bsmp.proofs.Number.{turned_turned, length_turned, length_little}
 use Rattle.copies.specs.Put.{put}
 use Rattle.copies.proofs.Put.{drop_one, put_nil, put_set, put_all}
 use Rattle.numbers.specs.Size.{place_of}
-use Rattle.numbers.proofs.Order.{length_turned, turned_turned, turned_read, turned_write}
+use Rattle.numbers.proofs.Order.{turned_read, turned_write}
 
 -- reading ----------------------------------------------------------------------------------------------------------------
 pub read_none : (big : Bool) (l : List ℕ) → 0 ≡ little (drop (length l) (turned big l))
@@ -73,9 +74,7 @@ module _ (big : Bool) (l : List ℕ) (i at u : ℕ) (f : Bytes l) (n : length l 
 
 -- writing ----------------------------------------------------------------------------------------------------------------
 pub length_bytes_lem : (n u : ℕ) → length (little_bytes n u) ≡ n
-unfolding little_bytes
-length_bytes_lem zero u = refl
-length_bytes_lem (suc n) u = ap suc (length_bytes_lem n (u / 256))
+length_bytes_lem n u = length_little n u
 
 pub write_start : (big : Bool) (d : List ℕ) (u : ℕ) → put (turned big d) 0 (little_bytes (length d - 0) u) ≡ little_bytes (length d) u
 write_start big d u = rw (sub-zero) (put_all (turned big d) (little_bytes (length d) u) (length_bytes_lem (length d) u ∙ sym (length_turned big d)))

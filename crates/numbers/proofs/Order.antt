@@ -1,7 +1,7 @@
 -- Bytes of either order: where each stands, read and written. Assumes nothing.
 use mathlib.Core.Path.{◌≡◌, refl, sym, ap, ◌∙◌}
 use mathlib.Core.Bool.{Bool, true, false}
-use mathlib.Core.List.{List, [], ◌∷◌, ◌++◌, append_assoc, reverse, reverse-cons, reverse-append, reverse-reverse}
+use mathlib.Core.List.{List, [], ◌∷◌, ◌++◌, append_assoc, reverse, reverse-cons, reverse-append}
 use Prim.Native.Nat.{ℕ, suc, ◌-◌, ◌<◌}
 use native.Mathlib.Omega.{arith}
 use lib.ListN.{length, take, drop, get_or, set, length-reverse, length-drop}
@@ -33,14 +33,6 @@ module _ (l : List ℕ) (i j : ℕ) (h : i < length l) (e : j ≡ length l - 1 -
       ∙ sym (set_at (reverse (drop (suc j) l)) (get_or l j 0) (reverse (take j l)) b i before)
       ∙ ap (λ (x : List ℕ). set x i b) (sym (reverse_at (take j l) (get_or l j 0) (drop (suc j) l)))
       ∙ ap (λ (x : List ℕ). set (reverse x) i b) (sym split)
-
-pub length_turned : (big : Bool) (l : List ℕ) → length (turned big l) ≡ length l
-length_turned true l = length-reverse l
-length_turned false l = refl
-
-pub turned_turned : (big : Bool) (l : List ℕ) → turned big (turned big l) ≡ l
-turned_turned true l = reverse-reverse l
-turned_turned false l = refl
 
 pub turned_read : (big : Bool) (l : List ℕ) (i : ℕ) → i < length l → get_or (turned big l) i 0 ≡ get_or l (place_of big (length l) i) 0
 turned_read true l i h = read_back l i _ h refl
