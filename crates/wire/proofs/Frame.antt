@@ -12,15 +12,12 @@ use Rattle.bsmp.specs.Message.{message_of}
 use Rattle.bsmp.specs.Packet.{packed, frame, checksum, reply}
 use Rattle.bsmp.specs.Store.{shown, outcome_of}
 use Rattle.bsmp.specs.declared.Outcome.TheVariants.{Reply}
+use Rattle.bsmp.proofs.Room.{frame_length}
 use Rattle.copies.specs.Put.{put, part}
 use Rattle.copies.proofs.Put.{put_nil, put_set, put_closed, put_cover, part_put, length_part}
 
 pub length_packed : (to code : ℕ) (v : List ℕ) → length (packed to (message_of code v)) ≡ length v + 5
 length_packed to code v = simp length-append (omega arith)
-
-pub length_frame : (code : ℕ) (v : List ℕ) → length (frame code v) ≡ length v + 5
-unfolding frame
-length_frame code v = length_packed 0 code v
 
 -- what stands at the front of the buffer, as `shown` has it
 pub put_shown : (r v : List ℕ) → put r 0 v ≡ shown (reply v) r
@@ -79,4 +76,4 @@ module _ (r v : List ℕ) (code n : ℕ) (r₁ r₂ : List ℕ) (w : r₁ ≡ pu
 
 -- and its length, as the outcome has it
 pub frame_outcome : (code n k : ℕ) (v : List ℕ) → n ≡ length v → k ≡ n + 5 → Reply k ≡ outcome_of (reply (frame code v))
-frame_outcome code n k v e f = ap Reply (f ∙ ap (◌+ 5) e ∙ sym (length_frame code v))
+frame_outcome code n k v e f = ap Reply (f ∙ ap (◌+ 5) e ∙ sym (frame_length code v))
