@@ -8,6 +8,7 @@ use native.Mathlib.Omega.{arith}
 use lib.Dec.{eqb, lit≤}
 use lib.ListN.{length}
 use borrow.Author.Tests.{eq-eqb, eqb-true, lt-ltb, ltb-true, not-false}
+use Rattle.std.proofs.Math.Bool.{and-false, or-true}
 use Rattle.bsmp.specs.Base.{word}
 use Rattle.bsmp.specs.Codes.{command_of, error_code, Check}
 use Rattle.bsmp.specs.Board.{Table, Layout, layout, State, curve_of, block_place, function_of, usable, faults}
@@ -113,10 +114,6 @@ runs_for x (RenewSum c) f h = cc
 runs_for x (RunFunction g) f h = cc
 
 -- a message, judged and carried out -----------------------------------------------------------------------------------------------
-off_last : (b : Bool) → (b && false) ≡ false
-off_last true = refl
-off_last false = refl
-
 module _ (t : Table) (s : State) (h : usable t s ≡ true) (to : ℕ) (o : Own to) (r : Request) (d : List ℕ) where
   abbrev X : Learned
   X = learned_of t s
@@ -125,7 +122,7 @@ module _ (t : Table) (s : State) (h : usable t s ≡ true) (to : ℕ) (o : Own t
   R = row_of (layout t) s.groups r d
 
   table_ok : (is_sized (wanted X r) && not (usable_learned X)) ≡ false
-  table_ok = rw (good_table t s h) (off_last (is_sized (wanted X r)))
+  table_ok = rw (good_table t s h) (and-false (is_sized (wanted X r)))
 
   error_heard : (e : WireError) → Understood X to r d (is_error e) (ends true (replies (error_code e) []))
   unfolding ends
@@ -180,10 +177,6 @@ understood t a busy room mine s r d q n ready e =
     let w = written a.own mine r d q e in
     rw (w.1, served_so t a busy room s r d ready w.0) (message_understood t s ready.board a.own (own a ready.place) r d busy n w.0)
 
-or_last : (b : Bool) → (b || true) ≡ true
-or_last true = refl
-or_last false = refl
-
 -- a function's result, handed in when it has run: its output, or its error byte
 module _ (t : Table) (a : Place) (room : ℕ) (s : State) (ready : Ready t a room s) (f : FunctionNumber) (d : List ℕ) where
   abbrev T : Learned
@@ -201,7 +194,7 @@ module _ (t : Table) (a : Place) (room : ℕ) (s : State) (ready : Ready t a roo
       (rw (lt-ltb f.0 (length t.functions) k, eq-eqb (length out) (function_of (layout t) f).output e))
   result_heard (failed x) k b =
       heard_frame T a.own (RunFunction f) (own a ready.place) table_known 0x53 (x ∷ []) (lit≤ tt)
-      (rw (lt-ltb f.0 (length t.functions) k, or_last (eqb 0x53 0x51 && eqb 1 (function_of (layout t) f).output)))
+      (rw (lt-ltb f.0 (length t.functions) k, or-true (eqb 0x53 0x51 && eqb 1 (function_of (layout t) f).output)))
 
   pub result_understood : (n : Ran) → clear (result_tests (layout t) room f n)
       → Understood (learned_of t s) a.own (RunFunction f) d (is_result f n) (function_result t room f true n s).ending

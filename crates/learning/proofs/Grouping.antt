@@ -8,6 +8,7 @@ use native.Mathlib.Numerals.{add-one}
 use native.Mathlib.Decide.{ℕ_discrete}
 use borrow.Author.Tests.{lt-leb, lt-ltb, le-ltb, ltb-true}
 use Rattle.std.proofs.Common.{max}
+use Rattle.std.proofs.Math.Bool.{and-false}
 use lib.Dec.{leb, ltb}
 use lib.ListN.{length, take, drop, get_or, set, length-map, length-set}
 use lib.Seq.{ext_get_or, get_or-set_same, get_or-set_other, take-suc-set}
@@ -58,10 +59,6 @@ known_below n ids h = record { below = λ k i. ltb-true (get_or ids k 0) n (ever
 pub ids_below : (n : ℕ) (ids : List ℕ) (b : Bool) → b ≡ known_ids n ids → b ≡ true → n ≤ 64 → Below 64 ids
 ids_below n ids b e f h = below_more n 64 ids (known_below n ids (sym e ∙ f)) h
 
-and_no : (a : Bool) → (a && false) ≡ false
-and_no true = refl
-and_no false = refl
-
 all_known : (l : Layout) (ids : List ℕ) → every (λ i. not (no_variable l i)) (map variable ids) ≡ known_ids (length l.sizes) ids
 all_known l [] = refl
 all_known l (i ∷ ids) = ap₂ ◌&&◌ (twice (ltb i (length l.sizes))) (all_known l ids)
@@ -89,20 +86,20 @@ module _ (t : LearnedTable) (p : ℕ) (ids : List ℕ) where
   left h = ap (with_made x) (sym (rw h))
 
   pub past_next : t.groups < p → Puts x
-  past_next h = let k : length x.groups < p = omega (arith, groups) in left (rw (lt-leb p (length x.groups) k, and_no (leb (length x.layout.sizes) 64)))
+  past_next h = let k : length x.groups < p = omega (arith, groups) in left (rw (lt-leb p (length x.groups) k, and-false (leb (length x.layout.sizes) 64)))
 
   pub past_fifth : 5 ≤ p → Puts x
-  past_fifth h = left (rw (le-ltb p 5 h, and_no (leb (length x.layout.sizes) 64 && leb p (length x.groups))))
+  past_fifth h = left (rw (le-ltb p 5 h, and-false (leb (length x.layout.sizes) 64 && leb p (length x.groups))))
 
   pub past_variables : 64 < t.variables → Puts x
   past_variables h = left (rw (sizes, lt-leb t.variables 64 h))
 
   pub no_ids : length ids ≡ 0 → Puts x
-  no_ids h = left (rw (length-map ids variable, h, and_no (leb (length x.layout.sizes) 64 && leb p (length x.groups) && ltb p 5)))
+  no_ids h = left (rw (length-map ids variable, h, and-false (leb (length x.layout.sizes) 64 && leb p (length x.groups) && ltb p 5)))
 
   pub unknown_ids : (b : Bool) → b ≡ known_ids t.variables ids → b ≡ false → Puts x
   unknown_ids b e h =
-      left (rw (all_known x.layout ids, sizes, sym e ∙ h, and_no (ltb 0 (length (map variable ids))), and_no (leb t.variables 64 && leb p (length x.groups) && ltb p 5)))
+      left (rw (all_known x.layout ids, sizes, sym e ∙ h, and-false (ltb 0 (length (map variable ids))), and-false (leb t.variables 64 && leb p (length x.groups) && ltb p 5)))
 
   -- taken --------------------------------------------------------------------------------------------------------------------------------
   module _ (s : ℕ) (named : Named ids s) (five : length t.sets ≡ 5) (near : p ≤ t.groups) (few : p < 5) (small : t.variables ≤ 64) (some : length ids ≡ 0 → ⊥) (b : Bool) (e : b ≡ known_ids t.variables ids) (h : b ≡ true) where
