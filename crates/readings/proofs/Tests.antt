@@ -1,12 +1,12 @@
 -- The tests that all readings have: as the code meets them, and what their passing tells. Assumes nothing.
-use mathlib.Core.Path.{◌≡◌, refl, sym, ap, ◌∙◌}
+use mathlib.Core.Path.{◌≡◌, sym, ap, ◌∙◌}
 use mathlib.Core.Bool.{Bool, true, false, not, cond, ◌&&◌, true≢false}
 use mathlib.Core.List.{List, [], ◌∷◌}
 use Prim.Native.Nat.{ℕ, ◌≤◌, ◌<◌}
 use native.Mathlib.Omega.{arith}
 use borrow.Author.Tests.{lt-ltb, le-ltb, eq-eqb, ne_eqb, ltb-true, eqb-true, not-false}
 use lib.Dec.{eqb}
-use Rattle.bsmp.specs.Base.{Test, first}
+use Rattle.bsmp.specs.Base.{first}
 use Rattle.bsmp.specs.Codes.{kind_of}
 use Rattle.bsmp.specs.Board.{fits_kind, is_type, usable_size, usable_variable, variable_rules, usable_variables}
 use Rattle.bsmp.specs.Number.{wrong_kind, is_big, record_of, kind_at, reading_tests}
@@ -18,7 +18,7 @@ use Rattle.bsmp.specs.declared.Refusal.{Refusal}
 use Rattle.bsmp.specs.declared.Refusal.TheVariants.{BoardUnusable, NoSuchVariable, WrongByteCount, WrongKind}
 use Rattle.bsmp.proofs.Bools.{and_true, all_at}
 use Rattle.bsmp.proofs.Lists.{every_at}
-use Rattle.bsmp.proofs.Chain.{clear, clear_at, first_case}
+use Rattle.bsmp.proofs.Chain.{either, clear, clear_at, first_case, first_map}
 use Rattle.records.specs.Lending.{record_at, records_of}
 use Rattle.rules.specs.Totals.{variables_total}
 use Rattle.records.specs.declared.Records.{Records}
@@ -66,20 +66,6 @@ module _ (r : Records) (i : VariableNumber) (s : Bool) (n : ℕ) (c : Option ℕ
 pub ruleset judge_cases = (judge_unusable, judge_unknown, judge_kind, judge_count, judge_good)
 
 -- what a judgement tells: the tests' refusal, or that all pass ------------------------------------------------------------
-through_cond : {B C : Type 0} (g : B → C) (b : Bool) (x y : B) → g (cond b x y) ≡ cond b (g x) (g y)
-through_cond g true x y = refl
-through_cond g false x y = refl
-
--- what is made of the chain's result is made of each result in the chain
-first_through : {E B C : Type 0} (g : B → C) (ts : List (Test E)) (f : E → B) (x : B) → g (first ts f x) ≡ first ts (λ e. g (f e)) (g x)
-unfolding first
-first_through g [] f x = refl
-first_through g (u ∷ us) f x = through_cond g u.broken _ _ ∙ ap (cond u.broken (g (f u.error))) (first_through g us f x)
-
-abbrev either : {B : Type 0} → (Refusal → B) → B → Result Bool Refusal → B
-either f ok (Err x) = f x
-either f ok (Ok b) = ok
-
 number_size : (s : Bool) (n : ℕ) (k : Kind) → wrong_kind s k ≡ false → fits_kind n k ≡ true → is_size n ≡ true
 number_size s n Plain w f = absurd (true≢false w)
 number_size s n (Number t b) w f = f
@@ -88,7 +74,7 @@ number_size s n Unknown w f = absurd (true≢false w)
 module _ (vs : List Variable) (i : VariableNumber) (s : Bool) (n : ℕ) where
   tested : {B : Type 0} (f : Refusal → B) (ok : B) (j : Result Bool Refusal) → j ≡ judged_of vs i s n → either f ok j ≡ first (reading_tests vs i s n) f ok
   unfolding judged_of
-  tested f ok j e = ap (either f ok) e ∙ first_through (either f ok) _ Err _
+  tested f ok j e = ap (either f ok) e ∙ first_map (either f ok) _ Err _
 
   pub refused_first : {B : Type 0} (f : Refusal → B) (ok : B) (x : Refusal) → Err x ≡ judged_of vs i s n → f x ≡ first (reading_tests vs i s n) f ok
   refused_first f ok x = tested f ok (Err x)

@@ -15,7 +15,7 @@ use Rattle.bsmp.specs.Packet.{message}
 use Rattle.bsmp.specs.declared.Refusal.{Refusal}
 use Rattle.bsmp.specs.declared.Refusal.TheVariants.{BadAddress, PacketLength, Checksum, ReplyUnfit}
 use Rattle.bsmp.proofs.Bools.{and_true}
-use Rattle.bsmp.proofs.Chain.{clear_at, first_case, first_map}
+use Rattle.bsmp.proofs.Chain.{either, clear_at, first_case, first_map}
 use Rattle.asking.specs.Request.{is_multicast, is_address}
 use Rattle.asking.specs.Reply.{is_whole}
 use Rattle.replies.specs.Reading.{open_tests, opened_of}
@@ -93,10 +93,6 @@ module _ (to : ℕ) (q : List ℕ) (a : Bool) (ae : a ≡ is_address to) where
               open_whole w = last _ (rw (lt-leb 248 to m, d, size_tested q n l f, eq-eqb _ _ w))
 
 -- what an opened reply tells ----------------------------------------------------------------------------------------------
-abbrev either : {B : Type 0} → (Refusal → B) → B → Result (Unit {0}) Refusal → B
-either f ok (Err x) = f x
-either f ok (Ok _) = ok
-
 module _ (to : ℕ) (q : List ℕ) (o : Result (Unit {0}) Refusal) (h : o ≡ opened_of to q) where
   module _ {B : Type 0} (f : Refusal → B) (ok : B) where
     tested : either f ok o ≡ first (open_tests to q) f ok

@@ -7,14 +7,10 @@ use Rattle.bsmp.specs.Base.{Test, first}
 use Rattle.bsmp.specs.Board.{Table, layout, State, faults}
 use Rattle.bsmp.specs.Store.{Lent, held}
 use Rattle.bsmp.specs.declared.Refusal.{Refusal}
-use Rattle.bsmp.proofs.Chain.{first_map, clear, broken_at, clear_at, first_case}
+use Rattle.bsmp.proofs.Chain.{either, first_map, clear, broken_at, clear_at, first_case}
 use Rattle.bsmp.proofs.Usable.{clear_usable}
 use Rattle.records.proofs.Sound.{Sound, usable_sound}
 use Rattle.std.specs.Prelude.{Result, Ok, Err}
-
-abbrev either : {B : Type 0} → (Refusal → B) → B → Result (Unit {0}) Refusal → B
-either f ok (Ok u) = ok
-either f ok (Err n) = f n
 
 refuse_no : (n : Refusal) → ◌≡◌ {A = Result (Unit {0}) Refusal} (Err n) (Ok tt) → ⊥
 refuse_no n h = cc

@@ -13,14 +13,10 @@ use Rattle.bsmp.specs.Base.{first}
 use Rattle.bsmp.specs.Packet.{Place, is_own, destination, message, place_tests, packet_tests}
 use Rattle.bsmp.specs.declared.Refusal.{Refusal}
 use Rattle.bsmp.proofs.Bools.{or_false}
-use Rattle.bsmp.proofs.Chain.{clear, clear_at, first_case, first_map}
+use Rattle.bsmp.proofs.Chain.{either, clear, clear_at, first_case, first_map}
 use Rattle.wire.specs.Opening.{opening_tests, opened_of}
 
 -- the packet's tests before any work: their refusal, or the work
-abbrev either : {B : Type 0} → (Refusal → B) → B → Result Bool Refusal → B
-either f ok (Err x) = f x
-either f ok (Ok d) = ok
-
 module _ (a : Place) (room : ℕ) (p : List ℕ) (o : Result Bool Refusal) (h : o ≡ opened_of a room p) where
   module _ {B : Type 0} (f : Refusal → B) (ok y : B) where
     tested : either f ok o ≡ first (place_tests a room) f (first (packet_tests a p) f ok)
@@ -56,9 +52,6 @@ module _ (a : Place) (room : ℕ) (p : List ℕ) (o : Result Bool Refusal) (h : 
 -- so the bytes between destination and checksum can be lent, `&packet[1..packet.len() - 1]`
 pub message_end : (p : List ℕ) → 2 ≤ length p → 1 ≤ length p
 message_end p h = omega arith
-
-pub message_start : (p : List ℕ) → 2 ≤ length p → 1 ≤ length p - 1
-message_start p h = omega arith
 
 -- and that part is the message
 pub message_lent : (p : List ℕ) → mid_of 1 (length p - 1 - 1) p ≡ message p
