@@ -14,7 +14,7 @@ use Rattle.bsmp.specs.Board.{usable_size, variable_rules, usable_curve, curve_ru
 use Rattle.bsmp.specs.Message.{Answer, say, tell, show, attest, call, listed, variable_list, group_list, curve_record, curve_list, function_list, Said, replies, runs, spoken}
 use Rattle.bsmp.specs.Packet.{Ran}
 use Rattle.bsmp.specs.declared.CurveNumber.{CurveNumber}
-use Rattle.bsmp.proofs.Bools.{and_true, all_at}
+use Rattle.bsmp.proofs.Bools.{and_true, inside, all_at}
 use Rattle.bsmp.proofs.Lists.{map_map, every_at, length_up_from, map_numbers}
 use Rattle.bsmp.proofs.Marks.{at_number}
 use Rattle.bsmp.proofs.Usable.{usable_parts, sizes_usable}
@@ -24,7 +24,7 @@ use Rattle.bsmp.proofs.Room.{told_bytes_lem, five_each, limits}
 use Rattle.asking.specs.Learned.{Learned, learned_of, usable_sizes, usable_learned, slot, slot_of, variable_slots, group_slots, fits_count, curves_from, functions_from}
 use Rattle.asking.specs.Reply.{Wanted, member_list, values, block, digest, output, is_variables, is_groups, is_members, is_curves, is_functions, is_values, holds, error_reply, answers, tells}
 use Rattle.asking.proofs.Written.{word_read}
-use Rattle.asking.proofs.Lists.{and_both, in_range_lem, between, map_numbered, every_numbered, numbers_again}
+use Rattle.asking.proofs.Lists.{and_both, in_range_lem, map_numbered, every_numbered, numbers_again}
 use Rattle.asking.proofs.Members.{members_few, members_limited, count_fits}
 use Rattle.asking.proofs.Records.{slot_read, curves_read, functions_read, values_read}
 
@@ -153,7 +153,7 @@ module _ (t : Table) (s : State) (h : usable t s ≡ true) where
   block_few : (c : CurveNumber) (k : ℕ) → c.0 < length t.curves → k < (curve_of L c).blocks → k < 65536
   block_few c k a b =
       let w = and_true (is_type (curve_of L c).writable && within 1 4096 (curve_of L c).size) (within 1 65536 (curve_of L c).blocks) (good_curve c a) in
-      omega (arith, b, between 1 65536 (curve_of L c).blocks w.1)
+      omega (arith, b, inside 1 65536 (curve_of L c).blocks w.1)
 
   -- and 1 to the block size of bytes follow
   block_bytes : (c : CurveNumber) (k : ℕ) → c.0 < length t.curves → k < (curve_of L c).blocks
@@ -162,7 +162,7 @@ module _ (t : Table) (s : State) (h : usable t s ≡ true) where
   block_bytes c k a b =
       let at : ℕ = block_place L c k in
       let z : get_or (block_sizes t.curves) at 0 ≡ (curve_of L c).size = block_size t.curves c.0 k a b in
-      let one = between 1 4096 (curve_of L c).size (and_true (is_type (curve_of L c).writable) _ (and_true (is_type (curve_of L c).writable && within 1 4096 (curve_of L c).size) (within 1 65536 (curve_of L c).blocks) (good_curve c a)).0).1 in
+      let one = inside 1 4096 (curve_of L c).size (and_true (is_type (curve_of L c).writable) _ (and_true (is_type (curve_of L c).writable && within 1 4096 (curve_of L c).size) (within 1 65536 (curve_of L c).blocks) (good_curve c a)).0).1 in
       let e : length (content_of s at) ≡ get_or s.lengths at 0 = content_length t s h at in
       (omega (arith, (lengths_in_range t s h).least at (place_known (block_sizes t.curves) at (omega arith))), omega (arith, (lengths_in_range t s h).most at))
 

@@ -13,7 +13,7 @@ use Rattle.bsmp.specs.Message.{message_of}
 use Rattle.bsmp.specs.Packet.{Place, usable_place, message, frame}
 use Rattle.bsmp.specs.declared.WireError.{WireError}
 use Rattle.bsmp.specs.declared.WireError.TheVariants.{Malformed, Unsupported, BadId, BadValue, BadSize, ReadOnly, Full, Busy}
-use Rattle.bsmp.proofs.Bools.{and_true}
+use Rattle.bsmp.proofs.Bools.{and_true, inside}
 use Rattle.bsmp.proofs.Chain.{clear, clear_at, first_case, first_clear}
 use Rattle.bsmp.proofs.Room.{frame_length, frame_sum}
 use Rattle.bsmp.proofs.Wrong.{packed_message}
@@ -21,7 +21,7 @@ use Rattle.asking.specs.Request.{is_multicast, is_address}
 use Rattle.asking.specs.Learned.{Learned, usable_learned}
 use Rattle.asking.specs.Reply.{Wanted, wanted, Heard, error_reply, error_of, is_sized, is_whole, fits_wanted, heard_in, fits, hearing_tests, Hearing, hears, hearing}
 use Rattle.asking.specs.declared.Request.{Request}
-use Rattle.asking.proofs.Lists.{clash, and_both, in_range_lem, between}
+use Rattle.asking.proofs.Lists.{clash, and_both, in_range_lem}
 
 -- a reply that is heard ------------------------------------------------------------------------------------------------------------
 abbrev pub code_in : List ℕ → ℕ
@@ -75,7 +75,7 @@ pub record Own (d : ℕ) : Type 0 where
 
 pub own : (a : Place) → usable_place a ≡ true → Own a.own
 unfolding usable_place
-own a h = let w = between 1 31 a.own (and_true _ _ (and_true (within 1 31 a.own && _) _ h).0).0 in record { low = w.0; high = w.1 }
+own a h = let w = inside 1 31 a.own (and_true _ _ (and_true (within 1 31 a.own && _) _ h).0).0 in record { low = w.0; high = w.1 }
 
 module _ (x : Learned) (to : ℕ) (r : Request) (o : Own to) (table : (is_sized (wanted x r) && not (usable_learned x)) ≡ false) (c : ℕ) (p : List ℕ) (n : length p ≤ 4099) where
   abbrev W : Wanted

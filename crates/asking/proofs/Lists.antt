@@ -4,9 +4,8 @@ use mathlib.Core.Bool.{Bool, true, ◌&&◌}
 use mathlib.Core.List.{List, [], ◌∷◌, ◌++◌, map}
 use Prim.Native.Nat.{ℕ, zero, suc, ◌+◌, ◌≤◌, ◌<◌}
 use native.Mathlib.Omega.{arith}
-use lib.Dec.{leb}
 use lib.ListN.{take, drop}
-use borrow.Author.Tests.{le-leb, leb-true}
+use borrow.Author.Tests.{le-leb}
 use Rattle.bsmp.specs.Base.{up_from, every, within}
 use Rattle.bsmp.specs.Board.{variable}
 use Rattle.bsmp.specs.declared.VariableNumber.{VariableNumber}
@@ -21,9 +20,6 @@ and_both a b h k = rw (h, k)
 
 pub in_range_lem : (a b x : ℕ) → a ≤ x → x ≤ b → within a b x ≡ true
 in_range_lem a b x h k = rw (le-leb a x h, le-leb x b k)
-
-pub between : (a b x : ℕ) → within a b x ≡ true → (a ≤ x) × (x ≤ b)
-between a b x h = let w : (leb a x ≡ true) × (leb x b ≡ true) = and_true _ _ h in (leb-true _ _ w.0, leb-true _ _ w.1)
 
 pub map_same : {A B : Type 0} (f g : A → B) (l : List A) → ((a : A) → f a ≡ g a) → map f l ≡ map g l
 map_same f g l h i = map (λ a. h a i) l

@@ -14,14 +14,14 @@ use Rattle.bsmp.specs.Message.{listed, curve_record, values_of}
 use Rattle.bsmp.specs.declared.VariableNumber.{VariableNumber}
 use Rattle.bsmp.specs.declared.Curve.{Curve}
 use Rattle.bsmp.specs.declared.Function.{Function}
-use Rattle.bsmp.proofs.Bools.{and_true}
+use Rattle.bsmp.proofs.Bools.{and_true, inside}
 use Rattle.bsmp.proofs.Lists.{map_map}
 use Rattle.bsmp.proofs.Store.{cut_join}
 use Rattle.bsmp.proofs.Usable.{Usable}
 use Rattle.bsmp.proofs.Stays.{value_length}
 use Rattle.asking.specs.Learned.{slot, slot_of, blocks_of, curves_from, functions_from}
 use Rattle.asking.specs.Reply.{value, paired}
-use Rattle.asking.proofs.Lists.{between, map_same}
+use Rattle.asking.proofs.Lists.{map_same}
 
 -- 03 and 05: a byte
 pub slot_read : (w : Bool) (n : ℕ) → n < 128 → slot_of (listed w n) ≡ slot w n
@@ -47,8 +47,8 @@ curve_read : (c : Curve) → usable_curve c ≡ true → (p : List ℕ) → curv
 curve_read c h p =
     let a = and_true _ (within 1 65536 c.blocks) h in
     let b = and_true (is_type c.writable) (within 1 4096 c.size) a.0 in
-    let s = between 1 4096 c.size b.1 in
-    let n = between 1 65536 c.blocks a.1 in
+    let s = inside 1 4096 c.size b.1 in
+    let n = inside 1 65536 c.blocks a.1 in
     let z : c.size / 256 % 256 * 256 + c.size % 256 ≡ c.size = omega arith in
     ap (◌∷ curves_from p)
     (ap₂ (λ w s. record { writable = w; size = s; blocks = blocks_of (c.blocks / 256 % 256 * 256 + c.blocks % 256) }) (bit_type c.writable b.0) z

@@ -11,10 +11,10 @@ use Rattle.bsmp.specs.declared.Curve.{Curve}
 use Rattle.bsmp.specs.declared.Function.{Function}
 use Rattle.bsmp.specs.declared.Command.{Command}
 use Rattle.bsmp.specs.declared.Command.TheVariants.{ReadSum, ReadBlock, WriteBlock, RenewSum}
+use Rattle.bsmp.proofs.Bools.{inside}
 use Rattle.bsmp.proofs.Chain.{broken_at, clear_at}
 use Rattle.parts.specs.Parts.{layout_of, Passed}
 use Rattle.parts.proofs.Passed.{passed_clear}
-use Rattle.records.proofs.Bounds.{inside}
 use Rattle.curves.specs.Fits.{named_curve, BlockRead, BlockFits, CurveNamed}
 
 module _ (ns : List ℕ) (w : ℕ) (cs : List Curve) (fs : List Function) (gs p : List ℕ) where

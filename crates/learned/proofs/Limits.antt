@@ -11,10 +11,9 @@ use lib.ListN.{length, get_or}
 use borrow.Author.Tests.{leb-true, le-leb}
 use Rattle.bsmp.specs.Base.{every}
 use Rattle.bsmp.specs.Board.{usable_size, usable_curves, usable_functions, usable_groups}
-use Rattle.bsmp.proofs.Bools.{and_true, all_at, bool_eq, not_so}
+use Rattle.bsmp.proofs.Bools.{and_true, inside, all_at, bool_eq, not_so}
 use Rattle.asking.specs.Learned.{Learned, size_rules, usable_sizes, usable_learned}
 use Rattle.records.specs.Lending.{curves_of, functions_of, groups_by, groups_of}
-use Rattle.records.proofs.Bounds.{inside}
 use Rattle.records.proofs.Lending.{made_count}
 use Rattle.records.proofs.Sound.{curves_most, functions_most, groups_most}
 use Rattle.rules.specs.declared.CurveTotal.{CurveTotal}

@@ -11,7 +11,7 @@ use lib.ListN.{length, take, drop, length-map, length-take, length-drop}
 use Rattle.bsmp.specs.Base.{all, every, within, byte_at, word_at, up_from}
 use Rattle.bsmp.specs.Board.{group, curve_rules, usable_curves, usable_functions}
 use Rattle.bsmp.specs.Packet.{message, gave, failed}
-use Rattle.bsmp.proofs.Bools.{and_true, all_at}
+use Rattle.bsmp.proofs.Bools.{and_true, inside, all_at}
 use Rattle.asking.specs.Learned.{Learned, size_rules, usable_sizes, slot_of, fits_count, curves_from, functions_from}
 use Rattle.asking.specs.Reply.{Wanted, wanted, is_error, is_done, is_version, is_variables, is_groups, is_members, is_curves, is_functions, is_values, is_block, is_sum, is_result}
 use Rattle.asking.specs.Reply.{error_reply, error_of, answers, tells, is_whole, Hearing, hears, hearing, told_of}
@@ -24,7 +24,6 @@ use Rattle.asking.specs.declared.Told.TheVariants as T
 use Rattle.bsmp.specs.declared.Refusal.{Refusal}
 use Rattle.bsmp.specs.declared.WireError.{WireError}
 use Rattle.std.specs.Prelude.{Ok, Err}
-use Rattle.asking.proofs.Lists.{between}
 use Rattle.asking.proofs.Frames.{taken}
 use Rattle.asking.proofs.Places.{payload_place}
 use Rattle.learning.specs.Taking.{Answers, taught_by, heard_left, heard_of}
@@ -35,10 +34,10 @@ module _ (x : Learned) (c : ℕ) (p : List ℕ) where
   unfolding answers wanted usable_sizes usable_curves usable_functions
   has_room ListVariables h =
       let u = (and_true (eqb c 0x03) (all (size_rules (map (λ b. (slot_of b).size) p))) h).1 in
-      omega (arith, length-map p (λ b. (slot_of b).size), between 1 64 (length (map (λ b. (slot_of b).size) p)) (all_at (size_rules (map (λ b. (slot_of b).size) p)) u 0))
+      omega (arith, length-map p (λ b. (slot_of b).size), inside 1 64 (length (map (λ b. (slot_of b).size) p)) (all_at (size_rules (map (λ b. (slot_of b).size) p)) u 0))
   has_room ListGroups h =
       let u = (and_true (eqb c 0x05 && within 3 8 (length p)) (every (λ g. fits_count (group g) (slot_of (byte_at p g)).size) (up_from 0 (length p))) h).0 in
-      (between 3 8 (length p) (and_true (eqb c 0x05) (within 3 8 (length p)) u).1).0
+      (inside 3 8 (length p) (and_true (eqb c 0x05) (within 3 8 (length p)) u).1).0
   has_room ListCurves h =
       let u = and_true (eqb c 0x09 && eqb (5 * length (curves_from p)) (length p)) (all (curve_rules (curves_from p))) h in
       let e : 5 * length (curves_from p) ≡ length p = eqb-true _ _ (and_true (eqb c 0x09) (eqb (5 * length (curves_from p)) (length p)) u.0).1 in

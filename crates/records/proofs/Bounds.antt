@@ -9,10 +9,7 @@ use Rattle.bsmp.specs.Board.{is_type, usable_variable, usable_curve}
 use Rattle.bsmp.specs.declared.Variable.{Variable}
 use Rattle.bsmp.specs.declared.Curve.{Curve}
 use Rattle.bsmp.specs.declared.Function.{Function}
-use Rattle.bsmp.proofs.Bools.{and_true}
-
-pub inside : (a b n : ℕ) → within a b n ≡ true → (a ≤ n) × (n ≤ b)
-inside a b n u = let w = and_true (leb a n) (leb n b) u in (leb-true a n w.0, leb-true n b w.1)
+use Rattle.bsmp.proofs.Bools.{and_true, inside}
 
 pub variable_rules_lem : (v : Variable) → usable_variable v ≡ true → (v.writable ≤ 1) × ((1 ≤ v.size) × (v.size ≤ 127))
 variable_rules_lem v u =

@@ -16,12 +16,12 @@ use Rattle.bsmp.specs.Store.{Lent, held}
 use Rattle.bsmp.specs.declared.Variable.{Variable}
 use Rattle.bsmp.specs.declared.Curve.{Curve}
 use Rattle.bsmp.specs.declared.Function.{Function}
-use Rattle.bsmp.proofs.Bools.{and_true, all_at}
+use Rattle.bsmp.proofs.Bools.{and_true, inside, all_at}
 use Rattle.bsmp.proofs.Store.{store_length, lengths_cut}
 use Rattle.bsmp.proofs.Usable.{usable_parts, usable_whole}
 use Rattle.records.specs.Lending.{curve_bytes, curve_blocks}
 use Rattle.bsmp.proofs.Lists.{every_at}
-use Rattle.records.proofs.Bounds.{inside, curve_rules_lem, usable_function, usable_group}
+use Rattle.records.proofs.Bounds.{curve_rules_lem, usable_function, usable_group}
 
 pub record Sound (t : Table) (x : Lent) : Type 0 where
   pub variables : usable_variables t.variables ≡ true
