@@ -20,9 +20,6 @@ use Rattle.answers.specs.Answers.{Spoke}
 use Rattle.answers.specs.declared.Spoken.{Spoken}
 use Rattle.serve.specs.Serve.{looks_at_types, SoundTypes, MarksFor, typed_layout, ServedAs}
 
-pub looks_so : (k c : Command) (b : Bool) → k ≡ c → b ≡ looks_at_types c → b ≡ looks_at_types k
-looks_so k c b e h = rw e h
-
 -- the marks, made where they are looked at
 module _ (k : Command) (ws : List ℕ) (b : Bool) (e : b ≡ looks_at_types k) where
   pub marks_made : (w : ℕ) → w ≡ writable_marks ws → MarksFor k ws w
@@ -88,6 +85,3 @@ module _ (ns ws cs fs : List ℕ) (busy : ℕ) (m : List ℕ) (x : Lent) (k : Co
     spoke = subst (λ u. Spoke due u.says r at s r') marks_enough z.spoke;
     leaves = subst (λ u. LeftAs typed u.state g y) marks_enough (record { holds = z.leaves.holds; some_removed = z.leaves.some_removed });
   }
-
-pub sound_any : (ns cs fs : List ℕ) (w w' : ℕ) (x : Lent) → SoundBoard (lent_layout ns w cs fs) x → SoundBoard (lent_layout ns w' cs fs) x
-sound_any ns cs fs w w' x h = record { variables = h.variables; sizes = h.sizes; curves = h.curves; lengths = h.lengths; sums = h.sums; functions = h.functions; groups = h.groups }

@@ -76,6 +76,7 @@ fn marks_for(command: Command, types: &[u8]) -> u64
 }
 
 // Carries out a message if it passed its tests.
+#[tactic(auto, using(judging::proofs::Judging::message_long))]
 fn carry_out(verdict: &Verdict, stores: &mut Stores) -> Regroup
     requires { SoundBoard (layout_in verdict.now.layout.now) (lent_in stores.old verdict.now.groups.now) }
     ensures same_stores { SameStores stores.old stores.new }
@@ -98,6 +99,7 @@ fn carry_out(verdict: &Verdict, stores: &mut Stores) -> Regroup
 }
 
 // What is said to a message where an answer is due, out of the state after it.
+#[tactic(auto, using(judging::proofs::Judging::message_long))]
 fn respond(verdict: &Verdict, stores: &Stores, reply: &mut [u8], at: usize) -> Spoken
     requires { SoundBoard (layout_in verdict.now.layout.now) (lent_in stores.now verdict.now.groups.now) × (at + 4099 ≤ length reply.old) }
     ensures { let l = layout_in verdict.now.layout.now in

@@ -1,14 +1,8 @@
 -- `respond` meets its contract. Assumes nothing.
 use borrow.Author.Rules.{rules}
-use Rattle.judging.proofs.Judging.{message_long, message_passed}
+use Rattle.judging.proofs.Judging.{message_passed}
 use Rattle.serve.proofs.Serving.{respond_pass, respond_fail}
 use Rattle.serve.proofs.respond.Goals as goal
-
-pub slice_bounds-answer-count : goal.slice_bounds-answer-count
-slice_bounds-answer-count c = search (message_long, rules)
-
-pub slice_bounds-answer-start : goal.slice_bounds-answer-start
-slice_bounds-answer-start c = search (message_long, rules)
 
 pub answer-requires-clause-passed : goal.answer-requires-clause-passed
 answer-requires-clause-passed c = search (message_passed, rules)
