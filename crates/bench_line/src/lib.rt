@@ -7,6 +7,7 @@ ghost use Rattle.text.specs.Page.{SameBuffer};
 use bsmp::Outcome;
 use text::Page;
 
+// Input and reply are each a word and hex: what they share is `put_hex`.
 fn put_input(page: &mut Page, input: &[u8])
     requires { (length input.now ≤ 15) × (page.old.at + 31 ≤ length page.old.out.now) }
     ensures at { page.new.at ≤ page.old.at + 31 }
@@ -48,7 +49,7 @@ fn put_answer(page: &mut Page, reply: &[u8], n: usize)
     }
 }
 
-// The line of an outcome, without its end.
+// The line of an outcome, without its end. That the reply's buffer is a whole one stands as a clause: it is lent as a slice.
 pub fn put_line(page: &mut Page, number: u64, o: Outcome, packet: &[u8], reply: &[u8])
     requires { (length reply.now ≡ 4104) × (page.old.at + 9000 ≤ length page.old.out.now) }
     ensures at { page.new.at < page.old.at + 9000 }

@@ -230,7 +230,7 @@ fn added(p: State, q: State) -> State
     }
 }
 
-// The first 64 bytes of x.
+// The first 64 bytes of x. That there are so many stands as a clause, here and above: what comes is a part of a message, and no array.
 #[tactic(auto, unfolding(crate::specs::Md5::operated))]
 pub fn chunk(q: State, x: &[u8]) -> State
     requires { 64 ≤ length x.now }
