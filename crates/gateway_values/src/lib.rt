@@ -39,7 +39,6 @@ impl From<Refusal> for PlainPlace {
 
 // Where a variable's bytes stand in the answer to a read of a group: behind the head and the members before it.
 fn member_place(known: &Known, g: GroupNumber, i: VariableNumber) -> PlainPlace
-    requires { length known.now.sizes.now ≤ 64 }
     ensures { result ≡ member_place (known_table known.now) g i }
 {
     if known.sizes.len() <= i.0 {

@@ -13,6 +13,7 @@ ghost use Rattle.learned.specs.Answered.{answered};
 
 use asking::Told;
 use bsmp::{CurveNumber, FunctionNumber, GroupNumber, Refusal, VariableNumber};
+use learned::Known;
 
 // Each answer with its own code, test and word, as 01's table has them.
 // E0.
@@ -66,23 +67,15 @@ pub fn variable_told(
 
 // 13 of a group that the table has.
 #[tactic(auto, using(crate::proofs::Values::group_unknown))]
-pub fn group_told(
-    sizes: &[u8],
-    writable: u64,
-    groups: &[u64],
-    g: GroupNumber,
-    code: u8,
-    payload: &[u8],
-) -> Result<Told, Refusal>
-    requires { length sizes.now ≤ 64 }
-    ensures { let x = table_in sizes.now writable groups.now [] [] in
+pub fn group_told(known: &Known, g: GroupNumber, code: u8, payload: &[u8]) -> Result<Told, Refusal>
+    ensures { let x = table_in known.now.sizes.now known.now.writable known.now.sets.now [] [] in
         result ≡ told_of (answered x (values (not (no_group x.groups g)) 0x13 (members x.layout x.groups g)) code payload.now) }
 {
-    if 3 + groups.len() <= g.0 {
+    if 3 + known.sets.len() <= g.0 {
         return Err(Refusal::ReplyUnfit);
     }
-    let set = sets::group_set(writable, groups, g);
-    bytes_told(0x13, members::set_bytes(sizes, set), code, payload)
+    let set = sets::group_set(known.writable, known.sets, g);
+    bytes_told(0x13, members::set_bytes(known.sizes, set), code, payload)
 }
 
 // 41: the same curve and block, of whose number two bytes are sent, and 1 to the block size of bytes.

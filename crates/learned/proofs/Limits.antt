@@ -126,20 +126,3 @@ module _ (t : LearnedTable) where
             pub all_good : v ≡ true → is_some c ≡ true → f ≡ true → g ≡ true → Some (known_table k) ≡ cond (usable_learned x) (Some x) None
             unfolding usable_learned
             all_good a b d o = rw (all, ← sizes, ← curves, ← functions, ← groups, a, b, d, o)
-
--- what is known of a usable table has at most 64 sizes
-few_held : (x : Learned) → usable_learned x ≡ true → length x.layout.sizes ≤ 64
-unfolding usable_learned usable_sizes
-few_held x h =
-    let parts : List Bool = usable_sizes x.layout.sizes ∷ usable_curves x.layout.curves ∷ usable_functions x.layout.functions ∷ usable_groups (length x.layout.sizes) x.groups ∷ [] in
-    (inside 1 64 (length x.layout.sizes) (all_at (size_rules x.layout.sizes) (all_at parts h 0) 0)).1
-
-pub few_sizes : (x : Learned) (k : Known) → Some (known_table k) ≡ cond (usable_learned x) (Some x) None → length k.sizes.now ≤ 64
-few_sizes x k e = by (usable_learned x) refl e
-  where
-    by : (b : Bool) → usable_learned x ≡ b → Some (known_table k) ≡ cond b (Some x) None → length k.sizes.now ≤ 64
-    by true u h =
-        let s : known_table k ≡ x = cc in
-        let l : length k.sizes.now ≡ length x.layout.sizes = ap (λ (y : Learned). length y.layout.sizes) s in
-        omega (arith, few_held x u)
-    by false u h = cc

@@ -1,10 +1,9 @@
 // What is learned of a node, as the gateway keeps it: numbers and places for them; and whether the table keeps 01's limits.
 #![tactic(auto)]
 
-ghost use Rattle.std.specs.Prelude.{◌≡◌, ◌&&◌, ◌*◌, Some, None, cond, map, ◌%◌, leb, length, take, option_map};
+ghost use Rattle.std.specs.Prelude.{◌≡◌, ◌&&◌, ◌*◌, ◌≤◌, Some, None, cond, map, ◌%◌, leb, length, take, option_map};
 ghost use Rattle.bsmp.specs.Base.{every};
 ghost use Rattle.asking.specs.Learned.{usable_sizes, usable_learned};
-ghost use Rattle.learned.specs.Table.{has_places, known_table, held_table};
 
 use records::Groups;
 
@@ -33,6 +32,7 @@ pub struct Known<'a> {
     pub sets: &'a [u64],
     pub shapes: &'a [u32],
     pub calls: &'a [u8],
+    pub ghost few: { length sizes.now ≤ 64 },
 }
 
 impl Known<'static> {
@@ -75,6 +75,8 @@ fn front<T>(places: &[T], count: u64, width: usize) -> Option<&[T]>
 }
 
 impl LearnedTable {
+    ghost use Rattle.learned.specs.Table.{has_places, known_table, held_table};
+
     // What is known, where the counts are no more than there are places.
     fn fronts(&self) -> Option<Known<'_>>
         ensures { let t = self.now in option_map known_table result ≡ cond (has_places t) (Some (held_table t)) None }

@@ -75,7 +75,6 @@ fn error_of(code: u8) -> WireError
 // The answer to a request, by what 01 gives to it.
 #[tactic(auto, unfolding(asking::specs::Reply::wanted, asking::specs::Reply::answers, asking::specs::Reply::tells, bsmp::specs::Board::members))]
 fn answer(known: &Known, request: Request, code: u8, payload: &[u8]) -> Result<Told, Refusal>
-    requires { length known.now.sizes.now ≤ 64 }
     ensures { let x = known_table known.now in result ≡ told_of (answered x (wanted x request) code payload.now) }
 {
     match request {
@@ -89,14 +88,7 @@ fn answer(known: &Known, request: Request, code: u8, payload: &[u8]) -> Result<T
         Request::ReadVariable(i) | Request::WriteRead { read: i, .. } => {
             heard::variable_told(known.sizes, i, code, payload)
         }
-        Request::ReadGroup(g) => heard::group_told(
-            known.sizes,
-            known.writable,
-            known.sets,
-            g,
-            code,
-            payload,
-        ),
+        Request::ReadGroup(g) => heard::group_told(known, g, code, payload),
         Request::ReadBlock { curve, block } => heard::block_told(
             known.shapes,
             curve,
@@ -118,7 +110,6 @@ fn answer(known: &Known, request: Request, code: u8, payload: &[u8]) -> Result<T
 
 // A reply, by what is known: an error, or the answer.
 fn read_by(known: &Known, destination: u8, request: Request, reply: &[u8]) -> Result<Told, Refusal>
-    requires { length known.now.sizes.now ≤ 64 }
     ensures { let x = known_table known.now in result ≡ told_of (heard_by x (wanted x request) destination reply.now) }
 {
     open(destination, reply)?;

@@ -10,7 +10,7 @@ pub returns-then-known-g : goal.returns-then-known-g
 returns-then-known-g c = group_none c.args.known.now _ _ c.if-known-i.false _ c.if-known-g.true c.from-then-known-g.ensures
 
 pub returns-then-not-is_marked : goal.returns-then-not-is_marked
-returns-then-not-is_marked c = member_none c.args.known.now _ _ c.if-known-i.false c.if-known-g.false c.requires (search rules) _ c.group_set-set.ensures _ c.is_marked.ensures _ c.if-not-is_marked.true c.from-then-not-is_marked.ensures
+returns-then-not-is_marked c = member_none c.args.known.now _ _ c.if-known-i.false c.if-known-g.false c.args.known.now.few (search rules) _ c.group_set-set.ensures _ c.is_marked.ensures _ c.if-not-is_marked.true c.from-then-not-is_marked.ensures
 
 pub returns : goal.returns
-returns c = member_told c.args.known.now _ _ c.if-known-i.false c.if-known-g.false c.requires (search rules) _ c.group_set-set.ensures _ c.is_marked.ensures c.if-not-is_marked.false _ _ _ c.declared.ensures c.set_bytes-before.ensures.0 c.from-2.ensures
+returns c = member_told c.args.known.now _ _ c.if-known-i.false c.if-known-g.false c.args.known.now.few (search rules) _ c.group_set-set.ensures _ c.is_marked.ensures c.if-not-is_marked.false _ _ _ c.declared.ensures c.set_bytes-before.ensures.0 c.from-2.ensures

@@ -1,11 +1,7 @@
 -- `place` meets its contract. Assumes nothing.
 use Rattle.learned.specs.Table.{known_table}
-use Rattle.learned.proofs.Limits.{few_sizes}
 use Rattle.gateway_values.proofs.Places.{place_unusable, place_usable}
 use Rattle.gateway_values.proofs.place.Goals as goal
-
-pub member_place-requires : goal.member_place-requires
-member_place-requires c = few_sizes _ c.in-Some.known c.in-Some.ensures
 
 pub returns-in-Some : goal.returns-in-Some
 returns-in-Some c = place_usable _ _ _ (known_table c.in-Some.known) _ c.in-Some.ensures c.member_place.ensures

@@ -3,7 +3,6 @@ use Rattle.std.proofs.Common.{◌≡◌}
 use Rattle.std.proofs.lemmas.Result.{err_from_is_err_and}
 use Rattle.bsmp.specs.declared.Refusal.TheVariants.{BoardUnusable}
 use Rattle.records.specs.Lending.{curves_of, functions_of}
-use Rattle.learned.proofs.Limits.{few_sizes}
 use Rattle.replies.proofs.Reading.{hearing_plain, hearing_unusable, hearing_usable}
 use Rattle.replies.proofs.read.Goals as goal
 
@@ -17,9 +16,6 @@ returns-in_err-known c =
     let v = rw c.in_err-known.ensures.ok_part at c.in_err-known.ensures.value in
     let z : c.in_err-known.field-0.0 ≡ BoardUnusable = cc in
     rw (p.1, p.2, z) (hearing_unusable _ _ _ _ _ c.is_sized.ensures c.if-not-is_sized.false (rw c.in_err-known.ensures.ok_part at c.known.ensures))
-
-pub read_by-requires-2 : goal.read_by-requires-2
-read_by-requires-2 c = few_sizes _ c.in_ok-known.known (rw c.in_ok-known.ensures.ok_part at c.known.ensures)
 
 pub returns : goal.returns
 returns c = hearing_usable _ _ _ _ _ c.is_sized.ensures c.if-not-is_sized.false _ _ (rw c.in_ok-known.ensures.ok_part at c.known.ensures) c.read_by-2.ensures
