@@ -1,6 +1,7 @@
 // The commands of groups: which error each meets, what a write changes, what the answers tell. Every check has the same parameters,
 // also those that it doesn't look at, and no check sees a value. They take sizes, marks and sets, and no layout with curves and functions in it: so a
-// contract shows what plays no part.
+// contract shows what plays no part. They come one by one: lent as a struct, whose type would say that the sizes are 64 at most, they take a packet's
+// stack to 680 bytes, where 640 are allowed.
 #![tactic(auto)]
 
 ghost use Rattle.std.specs.Prelude.{◌≡◌, false, cond, Ok, Err, [], ◌∷◌, ◌++◌, map, ◌+◌, ◌≤◌, ◌<◌, length, drop};

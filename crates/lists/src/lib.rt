@@ -16,7 +16,7 @@ pub fn byte_sum(bytes: &[u8]) -> u8
 }
 
 // The sum of the first n sizes. That there are 64 at most stands as a clause, here and wherever sizes are lent: a slice holds no invariant, and a
-// struct around it would be made for each message.
+// struct around it takes a packet more stack than is allowed (`groups` says how much).
 pub fn offset(sizes: &[u8], n: usize) -> usize
     requires { (n ≤ length sizes.now) × (length sizes.now ≤ 64) }
     ensures { result ≡ sum (take n sizes.now) }

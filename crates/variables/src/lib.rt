@@ -65,7 +65,8 @@ fn writes(
     Ok(())
 }
 
-// A check gives the first error of its command's tests, or a pass. All take the same, so that a new rule moves a body only.
+// A check gives the first error of its command's tests, or a pass. All take the same, so that a new rule moves a body only; sizes and marks one by
+// one, for the stack's sake, as in `groups`.
 #[tactic(auto, unfolding(bsmp::specs::Message::check, bsmp::specs::Message::line, bsmp::specs::Base::first))]
 pub fn check_read(sizes: &[u8], writable: u64, payload: &[u8], busy: u64) -> Result<(), WireError>
     requires { length sizes.now ≤ 64 }
