@@ -73,6 +73,7 @@ module _ (big : Bool) (l : List ℕ) (i at u : ℕ) (f : Bytes l) (n : length l 
   read_room = omega (arith, read_fits)
 
 -- writing ----------------------------------------------------------------------------------------------------------------
+-- the definition's law by the name that the pages have
 pub length_bytes_lem : (n u : ℕ) → length (little_bytes n u) ≡ n
 length_bytes_lem n u = length_little n u
 

@@ -75,7 +75,8 @@ fn marks_for(command: Command, types: &[u8]) -> u64
     0
 }
 
-// Carries out a message if it passed its tests.
+// Carries out a message if it passed its tests. That the board is sound is said of layout and stores together, here and below, so neither of the two
+// types can say it.
 #[tactic(auto, using(judging::proofs::Judging::message_long))]
 fn carry_out(verdict: &Verdict, stores: &mut Stores) -> Regroup
     requires { SoundBoard (layout_in verdict.now.layout.now) (lent_in stores.old verdict.now.groups.now) }

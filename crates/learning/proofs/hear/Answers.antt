@@ -13,6 +13,7 @@ returns-in_err-told c =
 pub returns-in-Error : goal.returns-in-Error
 returns-in-Error c = error_heard _ _ _ _ _ _ _ c.in-Error.is c.in_ok-told.ensures
 
+-- three bounds of one lemma, each by an arithmetic of its own
 pub overflow_sub-reply : goal.overflow_sub-reply
 overflow_sub-reply c = omega (arith, reply_long _ _ _ c.args.bytes.now _ _ c.in_ok-told.ensures c.in_default.not-Error)
 
