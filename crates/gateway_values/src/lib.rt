@@ -2,7 +2,7 @@
 // gateway supplies.
 #![tactic(auto)]
 
-ghost use Rattle.std.specs.Prelude.{◌≡◌, true, false, ◌≤◌, length, replicate};
+ghost use Rattle.std.specs.Prelude.{◌≡◌, true, false, length, replicate};
 ghost use Rattle.records.specs.Lending.{records_by};
 ghost use Rattle.learned.specs.Table.{known_table, held_table};
 ghost use Rattle.endings.specs.Numbers.{signed_says, unsigned_says};

@@ -4,7 +4,7 @@
 // stack to 680 bytes, where 640 are allowed.
 #![tactic(auto)]
 
-ghost use Rattle.std.specs.Prelude.{◌≡◌, false, cond, Ok, Err, [], ◌∷◌, ◌++◌, map, ◌+◌, ◌≤◌, ◌<◌, length, drop};
+ghost use Rattle.std.specs.Prelude.{◌≡◌, false, cond, Ok, Err, ◌++◌, map, ◌+◌, ◌≤◌, ◌<◌, length, drop};
 ghost use Rattle.bsmp.specs.Base.{some, cut, first};
 ghost use Rattle.bsmp.specs.Board.{size_of, marked, members, writable_group, group_count};
 ghost use Rattle.bsmp.specs.Message.{group_id_at, no_group, listed, group_list, writes_group, group_members, last_tests, check, edited, values_of};

@@ -1,7 +1,7 @@
 // The answers that are no lists, each by its code and payload: E0, the version, values, a block, a sum, an output.
 #![tactic(auto)]
 
-ghost use Rattle.std.specs.Prelude.{◌≡◌, Ok, Err, not, cond, ◌&&◌, [], ◌∷◌, ◌≤◌, eqb, length};
+ghost use Rattle.std.specs.Prelude.{◌≡◌, Ok, Err, not, cond, ◌&&◌, [], ◌∷◌, eqb, length};
 ghost use Rattle.bsmp.specs.Board.{members};
 ghost use Rattle.bsmp.specs.Message.{no_variable, no_group};
 ghost use Rattle.asking.specs.declared.Told.TheVariants as T;

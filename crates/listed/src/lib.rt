@@ -1,7 +1,7 @@
 // The answers that are lists: 03, 05, 07, 09 and 0D, each whole records within the limits.
 #![tactic(auto)]
 
-ghost use Rattle.std.specs.Prelude.{◌≡◌, ◌&&◌, ◌+◌, ◌*◌, ◌≤◌, ◌<◌, leb, ltb, eqb, length};
+ghost use Rattle.std.specs.Prelude.{◌≡◌, ◌&&◌, ◌+◌, ◌*◌, ◌≤◌, ◌<◌, ltb, eqb, length};
 ghost use Rattle.bsmp.specs.Base.{up_from, every, ascending, within, byte_at, word_at};
 ghost use Rattle.bsmp.specs.Board.{group, usable_curves};
 ghost use Rattle.asking.specs.Learned.{slot_of, fits_count, blocks_of, curves_from};

@@ -1,7 +1,7 @@
 // Lists of bytes: the checksum, offsets, and a value changed in its place.
 #![tactic(auto)]
 
-ghost use Rattle.std.specs.Prelude.{◌≡◌, List, ℕ, ◌+◌, ◌%◌, ◌≤◌, ◌<◌, length, take, drop};
+ghost use Rattle.std.specs.Prelude.{◌≡◌, ◌+◌, ◌%◌, ◌≤◌, length, take};
 ghost use Rattle.bsmp.specs.Base.{sum};
 ghost use Rattle.copies.specs.Put.{put, part};
 ghost use Rattle.bsmp.specs.Message.{operated, changed};

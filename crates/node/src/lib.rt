@@ -1,7 +1,7 @@
 // The work of a packet's entry, over what is lent: every board, packet and buffer is taken, and bad ones are refused.
 #![tactic(auto)]
 
-ghost use Rattle.std.specs.Prelude.{◌≡◌, true, ℕ, ◌≤◌, ◌<◌, length};
+ghost use Rattle.std.specs.Prelude.{◌≡◌, true, ◌≤◌, length};
 ghost use Rattle.bsmp.specs.Board.{layout, usable};
 ghost use Rattle.bsmp.specs.Packet.{message, served, packet};
 ghost use Rattle.bsmp.specs.Store.{held};

@@ -1,7 +1,7 @@
 // Readings: a variable's bytes as a number, and a number as a variable's bytes, for every input.
 #![tactic(auto)]
 
-ghost use Rattle.std.specs.Prelude.{Bool, ◌≡◌, length};
+ghost use Rattle.std.specs.Prelude.{◌≡◌, length};
 ghost use Rattle.bsmp.specs.Number.{wrong_kind, is_big, reading, writing};
 ghost use Rattle.records.specs.Lending.{records_of};
 ghost use Rattle.readings.specs.Answers.{judged_of, reading_of, writing_left, writing_left_of};

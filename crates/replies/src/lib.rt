@@ -1,7 +1,7 @@
 // A reply read as what it says: its refusal, the error, or the answer to the request, told by places in the reply.
 #![tactic(auto)]
 
-ghost use Rattle.std.specs.Prelude.{◌≡◌, ◌≤◌, length};
+ghost use Rattle.std.specs.Prelude.{◌≡◌};
 ghost use Rattle.asking.specs.Reply.{wanted, error_reply, error_of, told_of, hearing};
 ghost use Rattle.learned.specs.Table.{known_table, held_table};
 ghost use Rattle.learned.specs.Answered.{answered};
