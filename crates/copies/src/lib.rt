@@ -22,12 +22,29 @@ pub fn read_value(store: &[u8], from: usize, n: usize, reply: &mut [u8], to: usi
     copy_into(&mut reply[to..], &store[from..from + n]);
 }
 
-// As `copy_into`, by the library's copy, which is quicker for a block and takes more stack where it stands for a value.
+// A piece of 64 bytes, from the place in src where it goes in dst. It goes by way of an array, of which the compiler knows that it is apart from both.
+fn copy_piece(dst: &mut [u8], src: &[u8], at: usize)
+    requires { (at + 64 ≤ length src.now) × (at + 64 ≤ length dst.old) }
+    ensures { dst.new ≡ put dst.old at (part src.now at 64) }
+{
+    let mut piece = [0u8; 64];
+    copy_into(&mut piece, &src[at..at + 64]);
+    copy_into(&mut dst[at..], &piece);
+}
+
+// Copies as `copy_into` does, but by pieces, which is quicker for a block and takes more stack where it stands for a value. All at once it would be
+// quicker still, and a call of memmove, for which an archive would need a C library that has it. Taken into a packet's entry it would cost all
+// packets 48 bytes of stack.
+#[inline(never)]
 pub fn copy_block(dst: &mut [u8], src: &[u8])
     requires { length src.now ≤ length dst.old }
     ensures { dst.new ≡ put dst.old 0 src.now }
 {
-    dst[..src.len()].copy_from_slice(src);
+    let whole = src.len() / 64;
+    for turn in 0..whole {
+        copy_piece(dst, src, 64 * turn);
+    }
+    copy_into(&mut dst[64 * whole..], &src[64 * whole..]);
 }
 
 // As `read_value`, for a block.
@@ -35,5 +52,5 @@ pub fn read_block(store: &[u8], from: usize, n: usize, reply: &mut [u8], to: usi
     requires { (from + n ≤ length store.now) × (to + n ≤ length reply.old) }
     ensures { reply.new ≡ put reply.old to (part store.now from n) }
 {
-    reply[to..to + n].copy_from_slice(&store[from..from + n]);
+    copy_block(&mut reply[to..], &store[from..from + n]);
 }

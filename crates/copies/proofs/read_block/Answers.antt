@@ -1,6 +1,7 @@
 -- `read_block` meets its contract. Assumes nothing.
-use Rattle.copies.proofs.Put.{part_taken}
+use Rattle.copies.proofs.Put.{put_part}
+use borrow.Author.Rules.{rules}
 use Rattle.copies.proofs.read_block.Goals as goal
 
 pub returns : goal.returns
-returns c = part_taken _ _ _ _ _ _ c.copy_from_slice.ensures.after c.requires.0
+returns c = search (put_part, rules)
