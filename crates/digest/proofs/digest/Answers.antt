@@ -3,4 +3,4 @@ use Rattle.digest.proofs.Pieces.{digest_made}
 use Rattle.digest.proofs.digest.Goals as goal
 
 pub returns : goal.returns
-returns c = digest_made _ _ _ _ c.finish.ensures c.feed.ensures c.begin-p.ensures
+returns c = digest_made _ _ _ _ c.finish.ensures.sum c.feed.ensures c.begin-p.ensures
