@@ -16,9 +16,11 @@ fn place(i: usize, n: usize, big: bool) -> usize
 
 // The bytes as an unsigned number, from the most significant down. Not by the library's from_le_bytes, which takes an array: how many bytes there
 // are is known when the number is read.
+#[tactic(auto, unfolding(bsmp::specs::Number::meant))]
 pub fn unsigned_of(bytes: &[u8], big: bool) -> u64
     requires { length bytes.now ≤ 8 }
-    ensures { result ≡ little (turned big bytes.now) }
+    ensures value { result ≡ little (turned big bytes.now) }
+    ensures number { pos result ≡ number_of false big bytes.now }
 {
     let mut u: u64 = 0;
     for i in (0..bytes.len()).rev() {
@@ -30,7 +32,8 @@ pub fn unsigned_of(bytes: &[u8], big: bool) -> u64
 
 // The lowest bytes of an unsigned number, as many as there is room for.
 pub fn write_bytes(u: u64, big: bool, out: &mut [u8])
-    ensures { out.new ≡ turned big (little_bytes (length out.old) u) }
+    ensures lowest { out.new ≡ turned big (little_bytes (length out.old) u) }
+    ensures number { out.new ≡ bytes_of big (length out.old) (pos u) }
 {
     let mut rest = u;
     for i in 0..out.len() {
