@@ -6,6 +6,10 @@ use native.Mathlib.Omega.{arith}
 use lib.ListN.{length, take, get_or}
 use mathlib.Core.Bool.{Bool, true, false, cond, and-false}
 use lib.Dec.{leb}
+use mir.Syntax.{w64}
+use mir.Val.{Fits}
+use Rattle.std.proofs.lemmas.Nat.{mul-le}
+use Rattle.std.proofs.Math.Nat.{le-mul_of_pos_right}
 use Rattle.std.proofs.Common.{Option, Some, None, option_map}
 use lib.Seq.{length-take-le, get_or-take}
 use borrow.Author.Tests.{lt-ltb, leb-true, leb-false, le-leb, lt-leb}
@@ -16,6 +20,14 @@ use Rattle.records.proofs.Lending.{groups_lent}
 use Rattle.learned.specs.Table.{sizes_in, curves_in, functions_in, has_places, table_in, known_table, held_table}
 use Rattle.learned.specs.declared.LearnedTable.{LearnedTable}
 use Rattle.learned.specs.declared.Known.{Known}
+
+-- so many records of w places each, among l places
+module _ (n w l : ℕ) where
+  pub too_many : 0 < w → l < n → leb (n * w) l ≡ false
+  too_many p h = lt-leb (n * w) l (omega (arith, le-mul_of_pos_right n p))
+
+  pub few_fit : w ≤ 3 → l ≤ 96 → n ≤ l → Fits w64 (n * w)
+  few_fit a b h = record { fits = omega (arith, mul-le n w 96 3 (omega arith) a) }
 
 -- things that agree at each number
 module _ {A : Type 0} (f g : ℕ → A) where

@@ -1,7 +1,7 @@
 // What is learned of a node, as the gateway keeps it: numbers and places for them; and whether the table keeps 01's limits.
 #![tactic(auto)]
 
-ghost use Rattle.std.specs.Prelude.{◌≡◌, ◌&&◌, ◌*◌, ◌≤◌, Some, None, cond, map, ◌%◌, leb, length, take, option_map};
+ghost use Rattle.std.specs.Prelude.{◌≡◌, ◌&&◌, ◌*◌, ◌≤◌, ◌<◌, Some, None, cond, map, ◌%◌, leb, length, take, option_map};
 ghost use Rattle.bsmp.specs.Base.{every};
 ghost use Rattle.asking.specs.Learned.{usable_sizes, usable_learned};
 
@@ -56,8 +56,11 @@ pub fn usable_sizes(list: &[u8], most: u8) -> bool
     }
     let mut bytes: u32 = 0;
     for byte in list {
+        if most < *byte {
+            return false;
+        }
         let size = byte % 128;
-        if most < *byte || size < 1 {
+        if size < 1 {
             return false;
         }
         bytes += u32::from(size);
@@ -65,13 +68,19 @@ pub fn usable_sizes(list: &[u8], most: u8) -> bool
     bytes <= 4096
 }
 
-// The first so many records of places, `width` places each; none where there are not so many.
+// The first so many records of places, `width` places each; none where there are not so many. That they are few is known, so that their product needs no
+// test: one is a call of 64 bits on a processor that tells no carry.
+#[tactic(auto, using(crate::proofs::Fronts::too_many, crate::proofs::Fronts::few_fit))]
 fn front<T>(places: &[T], count: u64, width: usize) -> Option<&[T]>
+    requires { (0 < width) × (width ≤ 3) × (length places.now ≤ 96) }
     ensures { let n = count * width in
         option_map (λ s. s.now) result ≡ cond (leb n (length places.now)) (Some (take n places.now)) None }
 {
-    let n = usize::try_from(count).ok()?.checked_mul(width)?;
-    places.get(..n)
+    let n = usize::try_from(count).ok()?;
+    if places.len() < n {
+        return None;
+    }
+    places.get(..n * width)
 }
 
 impl LearnedTable {

@@ -75,15 +75,15 @@ pub fn usable_curve(c: Curve) -> bool
 pub fn usable_curves(curves: &[u32]) -> Option<CurveTotal>
     ensures { result ≡ curves_total (curves_of curves.now) }
 {
-    let n = curves.len();
-    if n % 3 != 0 || 24 < n {
+    let whole = curves.len() / 3;
+    if 8 < whole || whole != records::curve_count(curves) {
         return None;
     }
     let size = records::curve_at(curves, CurveNumber(0)).size;
     let mut alike = true;
     let mut bytes: u32 = 0;
     let mut blocks: u32 = 0;
-    for i in 0..n / 3 {
+    for i in 0..whole {
         let c = records::curve_at(curves, CurveNumber(i));
         if !usable_curve(c) {
             return None;
@@ -108,7 +108,9 @@ pub fn fitting(lengths: &[u16], size: u16) -> bool
 {
     let mut fitting = true;
     for n in lengths {
-        fitting = fitting & (1 <= *n) & (*n <= size);
+        if (*n < 1) | (size < *n) {
+            fitting = false;
+        }
     }
     fitting
 }

@@ -1,7 +1,7 @@
 -- `usable_sizes` meets its contract: one walk over the bytes. Assumes nothing.
-use borrow.Author.Tests.{le-leb}
+use borrow.Author.Tests.{le-leb, lt-leb}
 use Rattle.std.proofs.Common.{rules}
-use Rattle.learned.proofs.Sizes.{sized_start, sizes_out, sizes_unfit, sized_fits, sized_next, sized_end}
+use Rattle.learned.proofs.Sizes.{sized_start, sizes_out, sizes_over, sizes_none, sized_fits, sized_next, sized_end}
 use Rattle.learned.proofs.usable_sizes.Goals as goal
 
 pub returns-then-list-lt1 : goal.returns-then-list-lt1
@@ -11,7 +11,10 @@ pub loop-byte-init : goal.loop-byte-init
 loop-byte-init c = sized_start _ _
 
 pub returns-then-most-byte : goal.returns-then-most-byte
-returns-then-most-byte c = sizes_unfit _ _ _ _ c.loop-byte-test.true c.loop-byte.invariant c.then-most-byte.either
+returns-then-most-byte c = sizes_over _ _ _ _ c.loop-byte-test.true c.loop-byte.invariant (lt-leb _ _ c.if-most-byte.true)
+
+pub returns-then-size-lt1 : goal.returns-then-size-lt1
+returns-then-size-lt1 c = sizes_none _ _ _ _ c.loop-byte-test.true c.loop-byte.invariant c.if-size-lt1.true
 
 pub overflow_add-bytes : goal.overflow_add-bytes
 overflow_add-bytes c = search (sized_fits, rules)
