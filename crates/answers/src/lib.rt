@@ -5,12 +5,21 @@ ghost use Rattle.std.specs.Prelude.{◌≡◌, true, [], ◌∷◌, ◌+◌, ◌
 ghost use Rattle.bsmp.specs.Message.{function_at, line, runs, spoken};
 ghost use Rattle.parts.specs.Parts.{Passed, PayloadAt};
 ghost use Rattle.bsmp.specs.Store.{held};
-ghost use Rattle.judging.specs.Judging.{layout_in, lent_in, SoundBoard};
-ghost use Rattle.answers.specs.Answers.{spoken_of, Spoke};
+ghost use Rattle.judging.specs.Judging.{layout_in, SoundBoard};
+ghost use Rattle.answers.specs.Answers.{lent_kept, spoken_of, Spoke};
 ghost use Rattle.answers.specs.declared.Spoken.TheVariants.{Reply};
 
 use bsmp::{Command, FunctionNumber};
-use judging::{Layout, Stores};
+use judging::Layout;
+
+// What an answer is told out of: the stores, the blocks' lengths and the curves' sums, lent to be read, so that who may only read them can ask too.
+#[derive(Clone, Copy)]
+pub struct Kept<'a> {
+    pub values: &'a [u8],
+    pub blocks: &'a [u8],
+    pub lengths: &'a [u16],
+    pub sums: &'a [u8],
+}
 
 // What is said to a message: a reply whose payload stands in the buffer, that a function is to be run, or, where no answer is due, nothing.
 // No Option stands around the first two: whoever ends a call tells all three apart in one match.
@@ -64,16 +73,16 @@ pub fn answer(
     command: Command,
     layout: &Layout,
     groups: &[u64],
-    stores: &Stores,
+    kept: &Kept,
     payload: &[u8],
     reply: &mut [u8],
     at: usize,
 ) -> Spoken
-    requires sound_board { SoundBoard (layout_in layout.now) (lent_in stores.now groups.now) }
+    requires sound_board { SoundBoard (layout_in layout.now) (lent_kept kept.now groups.now) }
     requires passed { Passed (layout_in layout.now) groups.now payload.now command }
     requires at_in_bounds { at + 4099 ≤ length reply.old }
     ensures { let l = layout_in layout.now in
-        let x = lent_in stores.now groups.now in
+        let x = lent_kept kept.now groups.now in
         let said = spoken (line l x.groups payload.now command).answer (held l x) in
         Spoke true said reply.old at result reply.new }
 {
@@ -90,24 +99,22 @@ pub fn answer(
         Command::ListCurves => Spoken::of(0x09, curves::list(layout.curves, reply, at)),
         Command::ListFunctions => Spoken::of(0x0D, functions::list(layout.functions, reply, at)),
         Command::ReadVariable => {
-            let size = variables::tell(sizes, stores.values, payload, 0, reply, at);
+            let size = variables::tell(sizes, kept.values, payload, 0, reply, at);
             Spoken::of(0x11, size)
         }
         Command::ReadGroup => {
-            let size = groups::tell(sizes, writable, groups, stores.values, payload, reply, at);
+            let size = groups::tell(sizes, writable, groups, kept.values, payload, reply, at);
             Spoken::of(0x13, size)
         }
         Command::WriteRead => {
-            let size = variables::tell(sizes, stores.values, payload, 1, reply, at);
+            let size = variables::tell(sizes, kept.values, payload, 1, reply, at);
             Spoken::of(0x11, size)
         }
         Command::ReadBlock => {
-            let blocks = &*stores.blocks;
-            let lengths = &*stores.lengths;
-            let size = curves::tell(layout.curves, blocks, lengths, payload, reply, at);
+            let size = curves::tell(layout.curves, kept.blocks, kept.lengths, payload, reply, at);
             Spoken::of(0x41, size)
         }
-        Command::ReadSum => Spoken::of(0x0B, sums::tell_sum(stores.sums, payload, reply, at)),
+        Command::ReadSum => Spoken::of(0x0B, sums::tell_sum(kept.sums, payload, reply, at)),
         Command::RunFunction => run(payload),
         Command::WriteVariable
         | Command::WriteGroup

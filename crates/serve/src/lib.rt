@@ -11,7 +11,7 @@ ghost use Rattle.judging.specs.Judging.{layout_in, lent_in, SameStores, SoundBoa
 ghost use Rattle.answers.specs.Answers.{Spoke};
 ghost use Rattle.serve.specs.Serve.{looks_at_types, SoundTypes, MarksFor, columns_in, CarriedOut, Quiet, Unanswered, Fulfilled, ServedAs};
 
-use answers::Spoken;
+use answers::{Kept, Spoken};
 use bsmp::{Command, WireError};
 use changes::Regroup;
 use judging::{Layout, Stores};
@@ -110,15 +110,23 @@ fn respond(verdict: &Verdict, stores: &Stores, reply: &mut [u8], at: usize) -> S
 {
     let message = verdict.message;
     match verdict.check {
-        Ok(()) => answers::answer(
-            verdict.command,
-            verdict.layout,
-            verdict.groups,
-            stores,
-            &message[3..],
-            reply,
-            at,
-        ),
+        Ok(()) => {
+            let kept = Kept {
+                values: stores.values,
+                blocks: stores.blocks,
+                lengths: stores.lengths,
+                sums: stores.sums,
+            };
+            answers::answer(
+                verdict.command,
+                verdict.layout,
+                verdict.groups,
+                &kept,
+                &message[3..],
+                reply,
+                at,
+            )
+        }
         Err(e) => Spoken::of(u8::from(e), 0),
     }
 }
