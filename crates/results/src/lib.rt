@@ -14,9 +14,9 @@ use bsmp::{FunctionNumber, Outcome, Refusal, VariableNumber};
 use records::{Board, Groups, Records};
 
 // How the answer to a run function begins: that it gave its output, or that it failed.
-const OUTPUT: u8 = 0x51;
+pub const OUTPUT: u8 = 0x51;
 
-const ERROR: u8 = 0x53;
+pub const ERROR: u8 = 0x53;
 
 // Refusals 1, 3, 7, 8, in this order.
 #[tactic(auto, unfolding(bsmp::specs::Base::first, bsmp::specs::Board::faults))]
