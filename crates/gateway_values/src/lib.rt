@@ -69,21 +69,26 @@ pub fn place(table: &LearnedTable, wanted: usize, variable: usize) -> PlainPlace
     }
 }
 
+// Records to be filled.
+const BLANK: Records = Records {
+    count: 0,
+    writable: [0; 64],
+    sizes: [0; 64],
+    kinds: [0; 64],
+};
+
 // The records by the learned sizes and the kinds that the gateway supplies, as far as they have places; a variable counts as far as there is
-// a kind for it. A reading asks of a type only that it is one, so all variables are lent as read-only.
-fn records_with(table: &LearnedTable, kinds: &[u8]) -> Records
-    ensures columns { result ≡ records_by result.count (replicate 64 0) table.now.sizes result.kinds }
-    ensures taken { Taken table.now.variables kinds.now result.count result.kinds }
+// a kind for it. A reading asks of a type only that it is one, so all variables are lent as read-only. The records are lent to be filled: given back,
+// they were copied once more there, with 80 bytes of stack.
+fn take_records(table: &LearnedTable, kinds: &[u8], records: &mut Records)
+    ensures columns { records.new ≡ records_by records.new.count (replicate 64 0) table.now.sizes records.new.kinds }
+    ensures taken { Taken table.now.variables kinds.now records.new.count records.new.kinds }
 {
-    let mut column = [0u8; 64];
+    records.count = table.variables.min(kinds.len() as u64) as usize;
+    records.writable = [0; 64];
+    records.sizes = table.sizes;
     let n = kinds.len().min(64);
-    copies::copy_into(&mut column, &kinds[..n]);
-    Records {
-        count: table.variables.min(kinds.len() as u64) as usize,
-        writable: [0; 64],
-        sizes: table.sizes,
-        kinds: column,
-    }
+    copies::copy_into(&mut records.kinds, &kinds[..n]);
 }
 
 // Bytes to number, and number to bytes. The two readings differ in the struct that the C face has for each kind of number, so they stay two.
@@ -95,7 +100,9 @@ pub fn read_signed(
 ) -> PlainSignedReading
     ensures { signed_says result ≡ reading_of (records_for (held_table table.now) kinds.now) variable true bytes.now }
 {
-    plain::read_signed(&records_with(table, kinds), variable, bytes)
+    let mut records = BLANK;
+    take_records(table, kinds, &mut records);
+    plain::read_signed(&records, variable, bytes)
 }
 
 pub fn read_unsigned(
@@ -106,7 +113,9 @@ pub fn read_unsigned(
 ) -> PlainUnsignedReading
     ensures { unsigned_says result ≡ reading_of (records_for (held_table table.now) kinds.now) variable false bytes.now }
 {
-    plain::read_unsigned(&records_with(table, kinds), variable, bytes)
+    let mut records = BLANK;
+    take_records(table, kinds, &mut records);
+    plain::read_unsigned(&records, variable, bytes)
 }
 
 pub fn write<N: Number>(
@@ -119,5 +128,7 @@ pub fn write<N: Number>(
     ensures { let records = records_for (held_table table.now) kinds.now in
         plain_bytes_left result buffer.new ≡ writing_of records variable N.SIGNED (N.meaning number) buffer.old }
 {
-    plain::write(&records_with(table, kinds), variable, number, buffer)
+    let mut records = BLANK;
+    take_records(table, kinds, &mut records);
+    plain::write(&records, variable, number, buffer)
 }

@@ -3,4 +3,4 @@ use Rattle.gateway_values.proofs.Numbers.{reading_told}
 use Rattle.gateway_values.proofs.read_signed.Goals as goal
 
 pub returns : goal.returns
-returns c = reading_told c.args.table.now _ _ _ c.records_with.ensures.taken _ c.records_with.ensures.columns _ _ _ _ c.read_signed.ensures
+returns c = reading_told c.args.table.now _ _ _ c.take_records.ensures.taken _ c.take_records.ensures.columns _ _ _ _ c.read_signed.ensures
