@@ -202,6 +202,7 @@ static void add_to_packet(size_t place, uint8_t number)
 }
 
 static void four_groups(void) { state.groups.count = 4; }
+static void gaps(void) { state.groups.sets[BSMP_MOST_MADE_GROUPS - 1] = 0x5555555555555555; } /* every other variable in the last group */
 static void all_busy(void) { busy = UINT64_MAX; }
 static void to_all(void) { add_to_packet(0, 0xFF - 5); }
 static void size_wrong(void) { add_to_packet(3, 1); }
@@ -248,7 +249,7 @@ static void most_blocks(void)
 
 #define ON(...) .front = {__VA_ARGS__}, .front_length = sizeof((uint8_t[]){__VA_ARGS__})
 #define WHOLE_BLOCK 0x41, ON(LAST_CURVE, 0, 1), .rest = BSMP_MOST_BLOCK_SIZE
-enum { GROUP = BSMP_FIRST_MADE_GROUP + BSMP_MOST_MADE_GROUPS - 1 };
+enum { GROUP = BSMP_FIRST_MADE_GROUP + BSMP_MOST_MADE_GROUPS - 1, GAPS_BYTES = 8 + 1 + 30 * 68 };
 
 static const struct call packets[] = {
     {"00 version", 0x01, .command = 0x00},
@@ -262,6 +263,9 @@ static const struct call packets[] = {
     {"12 read group", 0x13, NULL, 0x12, ON(GROUP)},
     {"20 write variable", 0xE0, NULL, 0x20, ON(LAST_VARIABLE), .rest = LAST_SIZE},
     {"22 write group", 0xE0, NULL, 0x22, ON(GROUP), .rest = BSMP_MOST_VALUE_BYTES},
+    {"12 read group with gaps", 0x13, gaps, 0x12, ON(GROUP)},
+    {"22 write group with gaps", 0xE0, gaps, 0x22, ON(GROUP), .rest = GAPS_BYTES},
+    {"26 mask group with gaps", 0xE0, gaps, 0x26, ON(GROUP, 'X'), .rest = GAPS_BYTES},
     {"24 mask variable", 0xE0, NULL, 0x24, ON(LAST_VARIABLE, 'X'), .rest = LAST_SIZE},
     {"26 mask group", 0xE0, NULL, 0x26, ON(GROUP, 'X'), .rest = BSMP_MOST_VALUE_BYTES},
     {"28 write and read", 0x11, NULL, 0x28, ON(LAST_VARIABLE, LAST_VARIABLE - 1), .rest = LAST_SIZE},
