@@ -59,10 +59,10 @@ module _ (l : List ℕ) (f : ℕ → Bool) where
     abbrev b : ℕ
     b = get_or l i 0
 
-    pub sizes_over : f (get_or l i 0) ≡ false → Tells false
+    sizes_over : f (get_or l i 0) ≡ false → Tells false
     sizes_over k = rw (walked_stop f l (length l) i b 0 false refl h refl (sym k) refl q.walked)
 
-    pub sizes_none : get_or l i 0 % 128 < 1 → Tells false
+    sizes_none : get_or l i 0 % 128 < 1 → Tells false
     unfolding usable_sizes
     sizes_none k =
         let o : false ≡ usable_byte b = rw (lt-leb 1 (b % 128) k) in
@@ -86,3 +86,9 @@ module _ (l : List ℕ) (f : ℕ → Bool) where
   sized_end s i a b h q =
       rw (walked_end f l (length l) i refl h q.walked, each_in l, walked_end usable_byte l (length l) i refl h q.usable, length-map l size_in, le-leb 1 (length l) a, le-leb (length l) 64 b, ← sum_end l (length l) i refl h size_in s _ q.summed)
       (sym (and-on (leb s 4096)))
+
+-- a byte over the most, or of no size
+pub sizes_unfit : (l : List ℕ) (m s i : ℕ) → i < length l → Sized l (λ b. leb b m) s i → (m < get_or l i 0) ⊎ ((get_or l i 0 ≤ m) × (get_or l i 0 % 128 < 1))
+    → false ≡ (every (λ b. leb b m) l && usable_sizes (map (λ b. b % 128) l))
+sizes_unfit l m s i h q o =
+    elim o [ inl k ↦ sizes_over l (λ b. leb b m) s i h q (lt-leb (get_or l i 0) m k) | inr k ↦ sizes_none l (λ b. leb b m) s i h q k.1 ]

@@ -56,14 +56,10 @@ pub fn usable_sizes(list: &[u8], most: u8) -> bool
     }
     let mut bytes: u32 = 0;
     for byte in list {
-        if most < *byte {
+        if most < *byte || byte % 128 < 1 {
             return false;
         }
-        let size = byte % 128;
-        if size < 1 {
-            return false;
-        }
-        bytes += u32::from(size);
+        bytes += u32::from(byte % 128);
     }
     bytes <= 4096
 }
