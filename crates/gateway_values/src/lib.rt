@@ -69,14 +69,6 @@ pub fn place(table: &LearnedTable, wanted: usize, variable: usize) -> PlainPlace
     }
 }
 
-// Records to be filled.
-const BLANK: Records = Records {
-    count: 0,
-    writable: [0; 64],
-    sizes: [0; 64],
-    kinds: [0; 64],
-};
-
 // The records by the learned sizes and the kinds that the gateway supplies, as far as they have places; a variable counts as far as there is
 // a kind for it. A reading asks of a type only that it is one, so all variables are lent as read-only. The records are lent to be filled: given back,
 // they were copied once more there, with 80 bytes of stack.
@@ -100,7 +92,7 @@ pub fn read_signed(
 ) -> PlainSignedReading
     ensures { signed_says result ≡ reading_of (records_for (held_table table.now) kinds.now) variable true bytes.now }
 {
-    let mut records = BLANK;
+    let mut records = columns::BLANK;
     take_records(table, kinds, &mut records);
     plain::read_signed(&records, variable, bytes)
 }
@@ -113,7 +105,7 @@ pub fn read_unsigned(
 ) -> PlainUnsignedReading
     ensures { unsigned_says result ≡ reading_of (records_for (held_table table.now) kinds.now) variable false bytes.now }
 {
-    let mut records = BLANK;
+    let mut records = columns::BLANK;
     take_records(table, kinds, &mut records);
     plain::read_unsigned(&records, variable, bytes)
 }
@@ -128,7 +120,7 @@ pub fn write<N: Number>(
     ensures { let records = records_for (held_table table.now) kinds.now in
         plain_bytes_left result buffer.new ≡ writing_of records variable N.SIGNED (N.meaning number) buffer.old }
 {
-    let mut records = BLANK;
+    let mut records = columns::BLANK;
     take_records(table, kinds, &mut records);
     plain::write(&records, variable, number, buffer)
 }
