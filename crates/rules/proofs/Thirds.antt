@@ -1,5 +1,5 @@
 -- The walk over the curve records: their test, their bytes and blocks, and whether they are of one size, together. Assumes nothing.
-use mathlib.Core.Path.{◌≡◌, refl}
+use mathlib.Core.Path.{◌≡◌, refl, ◌∙◌}
 use mathlib.Core.Bool.{Bool, true, false, not, ◌&&◌, false≢true}
 use mathlib.Core.Logic.{◌⊎◌, inl, inr}
 use mathlib.Core.List.{List}
@@ -35,6 +35,12 @@ pub record Stepped (cs : List Curve) (size : ℕ) (a : Bool) (s k i : ℕ) : Typ
 
 -- the numbers that are lent, three to a record
 module _ (ns : List ℕ) where
+  pub curves_over : 24 < length ns → usable_curves (curves_of ns) ≡ false
+  curves_over h = curves_many (curves_of ns) ((length ns + 2) / 3) (curve_count ns) (omega arith)
+
+  pub whole_count : length ns % 3 ≡ 0 → length ns / 3 ≡ length (curves_of ns)
+  whole_count h = omega (arith, curve_count ns)
+
   -- a record that is cut off
   pub cut_off : (length ns % 3 ≡ 0 → ⊥) → usable_curves (curves_of ns) ≡ false
   cut_off h =
@@ -45,11 +51,12 @@ module _ (ns : List ℕ) where
       bad u = let z = rw (← curve_broken ns (length ns / 3) (omega arith)) at u in false≢true z
 
   pub curves_refused : (n : ℕ) → n ≡ length ns / 3 → (8 < n) ⊎ ((8 < n → ⊥) × (n ≡ length (curves_of ns) → ⊥)) → usable_curves (curves_of ns) ≡ false
-  curves_refused n e (inl h) = curves_many (curves_of ns) (length (curves_of ns)) refl (omega (arith, curve_count ns))
-  curves_refused n e (inr h) = cut_off (λ z. h.1 (omega (arith, curve_count ns)))
+  curves_refused n e (inl h) = curves_over (omega arith)
+  curves_refused n e (inr h) = cut_off (λ z. h.1 (e ∙ whole_count z))
 
-  pub whole_count : (k : ℕ) → length ns / 3 ≡ k → k ≡ length (curves_of ns) → length ns / 3 ≡ length (curves_of ns)
-  whole_count k w e = omega arith
+  -- the same where the two counts were compared
+  pub counts_equal : (k : ℕ) → length ns / 3 ≡ k → k ≡ length (curves_of ns) → length ns / 3 ≡ length (curves_of ns)
+  counts_equal k w e = omega arith
 
 module _ (cs : List Curve) (n size : ℕ) (l : n ≡ length cs) where
   pub stepped_start : Stepped cs size true 0 0 0
